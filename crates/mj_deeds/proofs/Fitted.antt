@@ -1,5 +1,6 @@
 -- What is true of deeds each of which fits after those before it.
-use Rattle.std.proofs.Common.{◌≡◌, ℕ, zero, suc, ◌+◌, ◌<◌, ◌≤◌, ◌⊎◌, inl, inr, List, [], ◌∷◌, ◌++◌, length, cond, leb, true, false, Bool, not, refl, sym, ap, ◌∙◌, subst, arith, append-nil, append_assoc}
+use Rattle.std.proofs.Common.{◌≡◌, ℕ, zero, suc, ◌+◌, ◌<◌, ◌≤◌, ◌⊎◌, inl, inr, List, [], ◌∷◌, ◌++◌, length, cond, leb}
+use Rattle.std.proofs.Common.{true, false, Bool, not, refl, sym, ap, ◌∙◌, subst, arith, append-nil, append_assoc}
 use Rattle.std.specs.Prelude.{Option, Some, None, flat_map, nat_lt}
 use Rattle.std.specs.List.{list_all}
 use Rattle.std.proofs.lemmas.Bool.{and_parts, and_from, ltb-true, leb-true, cases_lt, ne_eqb}
@@ -13,7 +14,9 @@ use Rattle.mj_tiles.specs.declared.meld.Meld.{Meld}
 use Rattle.mj_deeds.specs.declared.deed.Deed.{Deed}
 use Rattle.mj_deeds.specs.declared.deed.Deed.TheVariants.{StartGame, StartHand, Draw, Discard, Chi, Pon, OpenKan, ClosedKan, AddedKan, Dora, Reach, ReachAccepted, Win, DrawnHand, EndHand, EndGame}
 use Rattle.mj_deeds.specs.Facts.{newest, of_seat, makes_by, seat_melds, is_kan, kans}
-use Rattle.mj_deeds.specs.Fits.{Ground, ground_of, fits, fits_in, fits_behind, all_fit, is_in_place, is_in_hand, is_after_start, is_after_dora, is_after_kan, is_after_result, is_after_hand, taken_from, is_discard_of, has_seats, has_held, has_triplet, has_tiles, brought_by, keeps_kinds, has_room, has_room_for, has_live, is_first_riichi, has_points}
+use Rattle.mj_deeds.specs.Fits.{Ground, ground_of, fits, fits_in, fits_behind, all_fit, is_in_place, is_in_hand, is_after_start, is_after_dora}
+use Rattle.mj_deeds.specs.Fits.{is_after_kan, is_after_result, is_after_hand, taken_from, is_discard_of, has_seats, has_held, has_triplet}
+use Rattle.mj_deeds.specs.Fits.{has_tiles, brought_by, keeps_kinds, has_room, has_room_for, has_live, is_first_riichi, has_points}
 use Rattle.mj_deeds.specs.Points.{points}
 use Rattle.mj_deeds.specs.Hand.{is_hand_start, hand, before_in}
 use Rattle.mj_deeds.proofs.Newest.{newest_more}

@@ -11,7 +11,8 @@ use Rattle.mj_deeds.specs.declared.bid.Bid.TheVariants.{NoBid}
 use Rattle.mj_deeds.specs.declared.deed.Deed.{Deed}
 use Rattle.mj_deeds.specs.declared.deed.Deed.TheVariants as deeds
 use Rattle.mj_deeds.specs.Four.{at_seat}
-use Rattle.mj_deeds.specs.Facts.{newest, before_newest, gains_by, losses_by, tiles_gained, tiles_lost, discards_by, is_discard_by, river_tiles, makes_by, adds_by, with_added, seat_melds, is_kan, kans, indicators_by, indicators, is_live_draw, live_draws, live_tiles, drawn_by, holds_drawn, drawn_tile}
+use Rattle.mj_deeds.specs.Facts.{newest, before_newest, gains_by, losses_by, tiles_gained, tiles_lost, discards_by, is_discard_by, river_tiles, makes_by, adds_by, with_added}
+use Rattle.mj_deeds.specs.Facts.{seat_melds, is_kan, kans, indicators_by, indicators, is_live_draw, live_draws, live_tiles, drawn_by, holds_drawn, drawn_tile}
 use Rattle.mj_deeds.specs.Hand.{is_hand_start, hand, starts, hand_number}
 use Rattle.mj_deeds.specs.Firsts.{ends_first, is_first}
 use Rattle.mj_deeds.specs.Riichi.{is_reach_by, is_accepted_by, has_reached, is_in_riichi, before_first, behind_first, is_double, behind_reach, without_robbed, is_ippatsu}

@@ -1,5 +1,6 @@
 -- Facts that are read off a list of deeds of one hand, the oldest first.
-use Rattle.std.specs.Prelude.{ℕ, ◌-◌, ◌==◌, ◌&&◌, Bool, true, false, not, nat_lt, if◌then◌else◌, List, [], ◌∷◌, length, map, take, Option, Some, None, slice_get, slice_index, count_by, flat_map, option_and_then}
+use Rattle.std.specs.Prelude.{ℕ, ◌-◌, ◌==◌, ◌&&◌, Bool, true, false, not, nat_lt, if◌then◌else◌, List, [], ◌∷◌, length, map}
+use Rattle.std.specs.Prelude.{take, Option, Some, None, slice_get, slice_index, count_by, flat_map, option_and_then}
 use Rattle.mj_tiles.specs.Faces.{number_in, less, in_tile_order, kind_of}
 use Rattle.mj_tiles.specs.declared.meld.Meld.{Meld}
 use Rattle.mj_tiles.specs.declared.meld.Form.{Form}

@@ -6,7 +6,8 @@ use Rattle.std.proofs.Math.Seq.{take-append_seam}
 use Rattle.mj_deeds.specs.declared.deed.Viewer.{Viewer}
 use Rattle.mj_deeds.specs.declared.deed.Deed.{Deed}
 use Rattle.mj_deeds.specs.declared.deed.Deed.TheVariants as deeds
-use Rattle.mj_forms.specs.Lines.{line, start_game_line, start_hand_line, draw_line, discard_line, call_object, closed_kan_line, added_kan_line, dora_line, reach_line, reach_accepted_line, win_line, drawn_hand_line, end_hand_line, end_game_line}
+use Rattle.mj_forms.specs.Lines.{line, start_game_line, start_hand_line, draw_line, discard_line, call_object, closed_kan_line, added_kan_line}
+use Rattle.mj_forms.specs.Lines.{dora_line, reach_line, reach_accepted_line, win_line, drawn_hand_line, end_hand_line, end_game_line}
 
 -- A text that ends so is what stands before, and then these two.
 pub record Closes (text : List ℕ) : Type 0 where

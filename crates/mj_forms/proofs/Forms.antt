@@ -11,7 +11,9 @@ use Rattle.mj_deeds.specs.declared.answer.Answer.{Answer}
 use Rattle.mj_deeds.specs.declared.answer.Answer.TheVariants.{Unread, Pass, Discard, Chi, Pon, OpenKan, ClosedKan, AddedKan, Reach, Win, NineKinds}
 use Rattle.mj_deeds.specs.Pais.{face_in}
 use Rattle.mj_deeds.specs.Answers.{place_of, are_in_order, is_in_form}
-use Rattle.mj_forms.specs.AnswerForms.{value_of, text_in, seat_in, seat_as, pai_in, pass_by, pass_in, discard_in, is_hidden, pais_in_order, own_in, with_two_tiles, with_three_tiles, with_four_tiles, call_in, chi_by, pon_by, open_kan_by, closed_kan_in, added_kan_in, reach_in, optional_pai, win_in, is_nine_kinds, nine_kinds_in, answer_by, answer_in, answer_of}
+use Rattle.mj_forms.specs.AnswerForms.{value_of, text_in, seat_in, seat_as, pai_in, pass_by, pass_in, discard_in, is_hidden, pais_in_order, own_in}
+use Rattle.mj_forms.specs.AnswerForms.{with_two_tiles, with_three_tiles, with_four_tiles, call_in, chi_by, pon_by, open_kan_by, closed_kan_in, added_kan_in}
+use Rattle.mj_forms.specs.AnswerForms.{reach_in, optional_pai, win_in, is_nine_kinds, nine_kinds_in, answer_by, answer_in, answer_of}
 use Rattle.mj_forms.specs.Laws.{AnswersThatAreReadAreInForm}
 
 -- tiles in order

@@ -1,5 +1,6 @@
 -- What a line that is said reads as, and what a line asks that wants a seat. A line is one JSON value.
-use Rattle.std.specs.Prelude.{ℕ, ◌==◌, Bool, false, nat_lt, nat_le, if◌then◌else◌, List, [], ◌∷◌, length, codes, bytes_eq, Option, Some, None, unwrap_or, option_and_then, option_map, ◌++◌, map, flat_map, replicate, count_by, true}
+use Rattle.std.specs.Prelude.{ℕ, ◌==◌, Bool, false, nat_lt, nat_le, if◌then◌else◌, List, [], ◌∷◌, length, codes, bytes_eq, Option}
+use Rattle.std.specs.Prelude.{Some, None, unwrap_or, option_and_then, option_map, ◌++◌, map, flat_map, replicate, count_by, true}
 use Rattle.std.specs.Option.{option_map_or}
 use Rattle.std.specs.Str.Lossy.{utf8_valid_len}
 use Rattle.serde_json.specs.Data.{Data, Items, no_items, item}

@@ -6,7 +6,9 @@ use Rattle.std.proofs.KnownBytes.{Keeps-refl}
 use Rattle.std.proofs.lemmas.Slice.Eq.{bytes_eq-Decides}
 use Rattle.mj_words.specs.declared.serving.Hosting.{Hosting}
 use Rattle.mj_words.specs.declared.serving.Serving.{Serving}
-use Rattle.mj_words.specs.Asked.{Asked, ServedWith, RefereeOf, ServingOf, SummaryOfRecord, HandOf, SelfPlayOf, ViewOfRecord, KeepOf, SafeOf, TablesOf, Nothing, asked_by, seat_named, referee_by, referee_asked, keep_by, keep_asked, serve_asked, replay_by, replay_asked, hand_by, hand_asked, self_play_by, self_play_asked, observe_by, observe_asked, serving_by, safe_by, safe_asked, tables_by, tables_asked}
+use Rattle.mj_words.specs.Asked.{Asked, ServedWith, RefereeOf, ServingOf, SummaryOfRecord, HandOf, SelfPlayOf, ViewOfRecord, KeepOf, SafeOf, TablesOf, Nothing}
+use Rattle.mj_words.specs.Asked.{asked_by, seat_named, referee_by, referee_asked, keep_by, keep_asked, serve_asked, replay_by, replay_asked, hand_by, hand_asked}
+use Rattle.mj_words.specs.Asked.{self_play_by, self_play_asked, observe_by, observe_asked, serving_by, safe_by, safe_asked, tables_by, tables_asked}
 use Rattle.mj_words.specs.Lines.{referee_line, safe_line, value_in}
 use Rattle.mj_words.specs.Commands.{served_with, asked_by_serving, asked_by_hosting}
 use Rattle.mj_hosting.specs.declared.plays.ServeEnd.{ServeEnd}

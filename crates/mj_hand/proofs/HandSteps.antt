@@ -1,5 +1,6 @@
 -- The words of a hand, taken one by one, and the hand of all.
-use Rattle.std.proofs.Common.{◌≡◌, ℕ, ◌+◌, ◌-◌, ◌*◌, ◌<◌, ◌≤◌, List, [], ◌∷◌, ◌++◌, length, get_or, map, drop, Bool, true, false, cond, eqb, leb, ◌&&◌, refl, ap, ap₂, sym, ◌∙◌, append_assoc, append-nil, arith, subst, eq-eqb, inl, inr}
+use Rattle.std.proofs.Common.{◌≡◌, ℕ, ◌+◌, ◌-◌, ◌*◌, ◌<◌, ◌≤◌, List, [], ◌∷◌, ◌++◌, length, get_or, map, drop, Bool, true, false, cond}
+use Rattle.std.proofs.Common.{eqb, leb, ◌&&◌, refl, ap, ap₂, sym, ◌∙◌, append_assoc, append-nil, arith, subst, eq-eqb, inl, inr}
 use Rattle.std.specs.Prelude.{Option, Some, None, option_map, option_and_then, MatchOption}
 use Rattle.std.proofs.lemmas.Bool.{cases_Bool, cases_lt, leb-true}
 use Rattle.std.proofs.lemmas.Grind.{flat_map-append}

@@ -20,7 +20,8 @@ use Rattle.mj_history.specs.Legal.{is_permitted, all_permitted, can_return}
 use Rattle.mj_history.specs.Shown.{shown, shown_of, is_connected, seat_at, told_by, told_in, told_at}
 use Rattle.mj_history.specs.Seated.{places_at, begins, begun_from, begun_by, ScriptsByPlace}
 use Rattle.mj_history.proofs.Places.{slice_get-append_other, slice_get-set_at, slice_get-set_other, none_behind}
-use Rattle.mj_history.proofs.Connections.{ArePlaced, begun_in, begun_at, earlier_from, one_if, earlier-append, begun-one, begun-two, untold-earlier, untold-in, untold-at, seat-is, told-is, apart-at, nobody-at, and_off}
+use Rattle.mj_history.proofs.Connections.{ArePlaced, begun_in, begun_at, earlier_from, one_if, earlier-append, begun-one, begun-two}
+use Rattle.mj_history.proofs.Connections.{untold-earlier, untold-in, untold-at, seat-is, told-is, apart-at, nobody-at, and_off}
 use Rattle.mj_history.proofs.Entered.{step-chairs, step-entered, own_seats, after-placed, said-chairs, gone-chairs, back-chairs, sat-chairs, back_chair}
 use Rattle.mj_history.proofs.Moves.{waiting_is}
 

@@ -12,7 +12,8 @@ use Rattle.mj_deeds.specs.declared.answer.Answer.{Answer}
 use Rattle.mj_deeds.specs.declared.deed.Deed.{Deed}
 use Rattle.mj_wall.specs.declared.setting.Rules.{Rules}
 use Rattle.mj_wall.specs.declared.setting.Setting.{Setting}
-use Rattle.mj_history.specs.After.{After, Chair, Connection, Verdict, Taken, Late, verdict, verdict_by, author_after, progress_after, verdict_on, lines_for, after_said, after_gone, after_back, due_on_return, told_again, new_chair, own_part, pending, next_deed, with_deed, step, after_from, after, before_all}
+use Rattle.mj_history.specs.After.{After, Chair, Connection, Verdict, Taken, Late, verdict, verdict_by, author_after, progress_after, verdict_on, lines_for, after_said, after_gone}
+use Rattle.mj_history.specs.After.{after_back, due_on_return, told_again, new_chair, own_part, pending, next_deed, with_deed, step, after_from, after, before_all}
 use Rattle.mj_history.proofs.Fitting.{own_deeds}
 use Rattle.mj_history.proofs.Connections.{one_if, ArePlaced, placed-idle, placed-kept, placed-new, placed-again}
 

@@ -17,7 +17,8 @@ use Rattle.mj_wall.specs.declared.setting.Rules.{Rules}
 use Rattle.mj_wall.specs.declared.setting.Setting.{Setting}
 use Rattle.mj_window.specs.Slots.{empty_slots, is_waited_for, closes}
 use Rattle.mj_rules.specs.Broken.{broken_rule}
-use Rattle.mj_history.specs.After.{After, Chair, Verdict, Taken, Late, Refused, Closing, verdict_on, slots_after, lines_for, is_present, after_said, after_gone, after_back, new_chair, own_part, next_deed, with_deed, step, after_from, after, before_all}
+use Rattle.mj_history.specs.After.{After, Chair, Verdict, Taken, Late, Refused, Closing, verdict_on, slots_after, lines_for, is_present, after_said}
+use Rattle.mj_history.specs.After.{after_gone, after_back, new_chair, own_part, next_deed, with_deed, step, after_from, after, before_all}
 use Rattle.mj_history.specs.Legal.{IsLegal, is_present_by, may_say, can_say, is_permitted, all_permitted}
 use Rattle.mj_history.proofs.Places.{slice_get-set_at, slice_get-set_other, slice_get-append_other, slot-empty, slot-put_other}
 use Rattle.mj_history.proofs.Entered.{said_chair, gone_chair, back_chair, taken_at}

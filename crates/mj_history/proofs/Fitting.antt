@@ -25,7 +25,8 @@ use Rattle.mj_rules.proofs.Defaults.{fitting_default_is_lawful, played_default_i
 use Rattle.mj_window.specs.Slots.{put_at}
 use Rattle.mj_history.proofs.Places.{no_length}
 use Rattle.mj_history.proofs.Seats.{names_in, AreSeats, own_seats, no_seats}
-use Rattle.mj_history.specs.After.{After, Chair, Verdict, Taken, Late, Refused, Closing, verdict_by, verdict_on, slots_after, after_said, after_gone, after_back, own_part, names_of, answers_in, is_window_closed, next_deed, with_deed, step, after_from, after, before_all, IsLawfulIn, AreLawfulIn}
+use Rattle.mj_history.specs.After.{After, Chair, Verdict, Taken, Late, Refused, Closing, verdict_by, verdict_on, slots_after, after_said, after_gone, after_back, own_part}
+use Rattle.mj_history.specs.After.{names_of, answers_in, is_window_closed, next_deed, with_deed, step, after_from, after, before_all, IsLawfulIn, AreLawfulIn}
 use Rattle.mj_history.specs.Legal.{can_say, is_permitted, says_in_form, all_permitted, has_wall, IsLegal}
 use Rattle.mj_history.specs.Laws.{LegalGamesArePlayed, TakenAnswersAreLawful, OwnPartCanGoOn, NextDeedIsPlayed, LegalDeedsFit, NextDeedFits}
 

@@ -1,5 +1,6 @@
 -- A game that is read off an input is legal.
-use Rattle.std.specs.Prelude.{◌≡◌, ℕ, ◌+◌, ◌<◌, ◌≤◌, ◌==◌, ◌&&◌, ◌||◌, not, Bool, true, false, nat_lt, nat_le, if◌then◌else◌, List, [], ◌∷◌, ◌++◌, length, map, codes, bytes_eq, Option, Some, None, is_some, option_and_then, option_map, slice_get}
+use Rattle.std.specs.Prelude.{◌≡◌, ℕ, ◌+◌, ◌<◌, ◌≤◌, ◌==◌, ◌&&◌, ◌||◌, not, Bool, true, false, nat_lt, nat_le, if◌then◌else◌, List, [], ◌∷◌}
+use Rattle.std.specs.Prelude.{◌++◌, length, map, codes, bytes_eq, Option, Some, None, is_some, option_and_then, option_map, slice_get}
 use Rattle.std.specs.Option.{option_map_or}
 use Rattle.std.specs.List.{list_all, list_any}
 use Rattle.std.proofs.Common.{suc, refl, ap, ◌∙◌, sym, subst, arith, append-nil}
@@ -25,7 +26,9 @@ use Rattle.mj_forms.specs.AnswerForms.{answer_of, join_of, join_in, name_of, tex
 use Rattle.mj_history.specs.After.{After, Chair, before_all, after, is_present}
 use Rattle.mj_history.specs.Legal.{has_name, is_over, can_sit, can_return, is_present_by, can_say, can_expire, is_permitted, all_permitted, has_wall, has_ground, IsLegal}
 use Rattle.mj_history.specs.Sitting.{held_of, placing, entries_of_placing, author_at}
-use Rattle.mj_history.specs.Arrivals.{ArrivalForm, Header, WallOf, Sit, Say, Leave, Expire, NoForm, form_of, Intake, setting_of, now_of, Arrival, Leads, Bad, header_arrives, wall_arrives, with_entries, sit_arrives, say_arrives, gone_arrives, expiry_arrives, behind_header, first_line, arrives, Input, at_end, intake_on, intake_from, nothing_read, input_of}
+use Rattle.mj_history.specs.Arrivals.{ArrivalForm, Header, WallOf, Sit, Say, Leave, Expire, NoForm, form_of, Intake, setting_of, now_of, Arrival}
+use Rattle.mj_history.specs.Arrivals.{Leads, Bad, header_arrives, wall_arrives, with_entries, sit_arrives, say_arrives, gone_arrives, expiry_arrives}
+use Rattle.mj_history.specs.Arrivals.{behind_header, first_line, arrives, Input, at_end, intake_on, intake_from, nothing_read, input_of}
 use Rattle.mj_history.proofs.Places.{no_length}
 use Rattle.mj_history.proofs.Entries.{all_permitted-append}
 use Rattle.mj_history.proofs.Seats.{legal_seats}

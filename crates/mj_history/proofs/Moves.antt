@@ -1,5 +1,6 @@
 -- The laws by which a game is one that workers play by entries: what an entry does to the seat that it is of, and to others.
-use Rattle.std.proofs.Common.{◌≡◌, ◌≢◌, ⊎_elim, ℕ, zero, suc, ◌+◌, ◌-◌, ◌<◌, ◌≤◌, ◌==◌, ◌&&◌, not, inl, inr, List, [], ◌∷◌, ◌++◌, length, Bool, true, false, refl, true≢false, ap, ◌∙◌, sym, subst, arith, append-nil, append_assoc}
+use Rattle.std.proofs.Common.{◌≡◌, ◌≢◌, ⊎_elim, ℕ, zero, suc, ◌+◌, ◌-◌, ◌<◌, ◌≤◌, ◌==◌, ◌&&◌, not, inl, inr, List, [], ◌∷◌, ◌++◌}
+use Rattle.std.proofs.Common.{length, Bool, true, false, refl, true≢false, ap, ◌∙◌, sym, subst, arith, append-nil, append_assoc}
 use Rattle.std.specs.Prelude.{◌⊎◌, if◌then◌else◌, Option, Some, None, is_some, unwrap_or, option_map, slice_get, slice_set, flat_map, take, nat_lt}
 use Rattle.std.specs.Option.{option_map_or}
 use Rattle.std.proofs.lemmas.Bool.{and_parts, not-true, ltb-false, eq-eqb}
@@ -20,14 +21,16 @@ use Rattle.mj_deeds.specs.Four.{at_seat}
 use Rattle.mj_wall.specs.declared.setting.Rules.{Rules}
 use Rattle.mj_wall.specs.declared.setting.Setting.{Setting}
 use Rattle.mj_forms.specs.Lines.{error_text}
-use Rattle.mj_history.specs.After.{After, Chair, Verdict, Taken, Late, Refused, Closing, verdict_on, is_present, lines_for, after_said, after_gone, after_back, due_on_return, new_chair, own_part, pending, next_deed, step, after}
+use Rattle.mj_history.specs.After.{After, Chair, Verdict, Taken, Late, Refused, Closing, verdict_on, is_present, lines_for, after_said}
+use Rattle.mj_history.specs.After.{after_gone, after_back, due_on_return, new_chair, own_part, pending, next_deed, step, after}
 use Rattle.mj_history.specs.Legal.{IsLegal, is_present_by, may_say, can_return, is_permitted}
 use Rattle.mj_history.specs.Sitting.{author_at}
 use Rattle.mj_history.specs.Shown.{shown, due_at, line_at, is_connected, seat_at, told_at, heard_of, hears_of, control_line}
 use Rattle.mj_history.specs.Seated.{OthersLeaveAlone, SeatsBegin, ReturnsBegin, AnswersGoByVerdict, SeatsLeave}
 use Rattle.mj_history.proofs.Places.{slice_get-append_other, slice_get-set_at, slice_get-set_other}
 use Rattle.mj_history.proofs.Connections.{ArePlaced, IsConnected, connected-by, seat-is, told-is, apart-at, nobody-at}
-use Rattle.mj_history.proofs.Entered.{step-chairs, step-deeds, listed, entered-is, seats-are, step-placed, after-placed, back_chair, said_chair, gone_chair, said-chairs, gone-chairs, back-chairs, sat-chairs}
+use Rattle.mj_history.proofs.Entered.{step-chairs, step-deeds, listed, entered-is, seats-are, step-placed, after-placed, back_chair}
+use Rattle.mj_history.proofs.Entered.{said_chair, gone_chair, said-chairs, gone-chairs, back-chairs, sat-chairs}
 use Rattle.mj_history.proofs.Seats.{AreSeats, step_seats, legal_seats, held_within}
 use Rattle.mj_history.proofs.Seated.{stepped, beginnings_are_legal, stays_step, last_permitted, said_present, on_off}
 use Rattle.mj_history.proofs.LinesGrow.{line_kept, no_line_behind}

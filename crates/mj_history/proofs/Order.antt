@@ -19,7 +19,8 @@ use Rattle.mj_wall.specs.declared.setting.Setting.{Setting}
 use Rattle.mj_window.specs.Slots.{closes}
 use Rattle.mj_rules.specs.Broken.{broken_rule}
 use Rattle.mj_rules.specs.Outcome.{outcome}
-use Rattle.mj_history.specs.After.{After, Chair, Progress, Verdict, Taken, Late, Refused, Closing, verdict_on, progress_after, slots_after, lines_for, is_present, names_of, answers_in, after_said, own_part, next_deed, with_deed, step, after_from, after, before_all}
+use Rattle.mj_history.specs.After.{After, Chair, Progress, Verdict, Taken, Late, Refused, Closing, verdict_on, progress_after, slots_after, lines_for}
+use Rattle.mj_history.specs.After.{is_present, names_of, answers_in, after_said, own_part, next_deed, with_deed, step, after_from, after, before_all}
 use Rattle.mj_history.specs.Legal.{is_open, is_over, can_say, is_permitted}
 use Rattle.mj_history.specs.Sitting.{author_at}
 use Rattle.mj_history.specs.Shown.{due_at}

@@ -22,7 +22,8 @@ use Rattle.mj_history.proofs.ToldAnswers.{Tells, at_each, all_lawful}
 use Rattle.mj_history.proofs.ToldActs.{draw_tells, reach_tells, chi_tells, pon_tells}
 use Rattle.mj_history.proofs.ToldWins.{won_tells, discard_offers, added_offers}
 use Rattle.mj_history.proofs.ToldCalls.{called_tells}
-use Rattle.mj_history.proofs.ToldPasses.{game_start_tells, hand_start_tells, open_kan_tells, closed_kan_tells, added_kan_tells, dora_tells, accepted_tells, later_win_tells, drawn_hand_tells, hand_end_tells}
+use Rattle.mj_history.proofs.ToldPasses.{game_start_tells, hand_start_tells, open_kan_tells, closed_kan_tells, added_kan_tells}
+use Rattle.mj_history.proofs.ToldPasses.{dora_tells, accepted_tells, later_win_tells, drawn_hand_tells, hand_end_tells}
 
 -- After a discard and an added kan, by who wins on the tile.
 discard_tells : (rules : Rules) (walls : List (List ℕ)) (ds : List Deed) (who tile : ℕ) (drawn : Bool) (given : Four Answer) (d : Deed)

@@ -19,7 +19,8 @@ use Rattle.mj_wall.specs.declared.setting.Setting.{Setting}
 use Rattle.mj_window.specs.Slots.{empty_slots}
 use Rattle.mj_rules.specs.Default.{default_answer}
 use Rattle.mj_rules.specs.Outcome.{outcome}
-use Rattle.mj_history.specs.After.{After, Chair, Verdict, Taken, Late, Refused, Closing, verdict_on, slots_after, after_said, after_gone, after_back, own_part, names_of, answers_in, is_window_closed, next_deed, with_deed, step, after_from, after, before_all}
+use Rattle.mj_history.specs.After.{After, Chair, Verdict, Taken, Late, Refused, Closing, verdict_on, slots_after, after_said, after_gone, after_back}
+use Rattle.mj_history.specs.After.{own_part, names_of, answers_in, is_window_closed, next_deed, with_deed, step, after_from, after, before_all}
 use Rattle.mj_history.specs.Legal.{IsLegal, is_present_by, may_say, can_say, is_permitted, all_permitted}
 use Rattle.mj_history.specs.Windows.{is_taken, taken, taken_from, taken_in, SlotsHoldTheTaken, WindowsDecide}
 use Rattle.mj_history.proofs.Places.{slot-empty, slot-put_at}

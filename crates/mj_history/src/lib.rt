@@ -5,7 +5,8 @@
 
 ghost use Rattle.mj_history.specs.Laws.{ReadGamesAreLegal, LegalGamesArePlayed, TakenAnswersAreLawful, OwnPartCanGoOn, NextDeedIsPlayed, LegalDeedsFit, NextDeedFits};
 ghost use Rattle.mj_history.specs.Told.{ToldAnswersGive, EachWinnerIsTold, NothingPlayed};
-ghost use Rattle.mj_history.specs.Seated.{BeginningsAreLegal, LinesStay, EndedConnectionsStay, OthersLeaveAlone, SeatsBegin, ReturnsBegin, AnswersGoByVerdict, SeatsLeave, SeatsAreClosed, ScriptsByPlace};
+ghost use Rattle.mj_history.specs.Seated.{BeginningsAreLegal, LinesStay, EndedConnectionsStay, OthersLeaveAlone, SeatsBegin};
+ghost use Rattle.mj_history.specs.Seated.{ReturnsBegin, AnswersGoByVerdict, SeatsLeave, SeatsAreClosed, ScriptsByPlace};
 ghost use Rattle.mj_history.specs.Arriving.{OneDeedAnEntry, LawfulAnswersAreTaken, NewNamesAreSeated, ExpiriesClose};
 ghost use Rattle.mj_history.specs.Edges.{FourStart, TheFourthStarts, ReturnsAreSeated};
 ghost use Rattle.mj_history.specs.Order.{OrderIsFree};

@@ -1,5 +1,6 @@
 -- Hands that no exchange of one tile completes, since three of their kinds stand alone.
-use Rattle.std.proofs.Common.{ℕ, zero, suc, ◌≡◌, ◌<◌, ◌≤◌, ◌+◌, ◌-◌, ◌∷◌, [], ◌⊎◌, inl, inr, ◌&&◌, ◌||◌, Bool, true, false, cond, eqb, leb, ltb, List, length, get_or, set, length-set, get_or-set_same, get_or-set_other, refl, sym, subst, ap, ◌∙◌, arith}
+use Rattle.std.proofs.Common.{ℕ, zero, suc, ◌≡◌, ◌<◌, ◌≤◌, ◌+◌, ◌-◌, ◌∷◌, [], ◌⊎◌, inl, inr, ◌&&◌, ◌||◌, Bool, true, false, cond, eqb, leb, ltb}
+use Rattle.std.proofs.Common.{List, length, get_or, set, length-set, get_or-set_same, get_or-set_other, refl, sym, subst, ap, ◌∙◌, arith}
 use Rattle.std.specs.Prelude.{Option, Some, None, is_some}
 use Rattle.std.proofs.lemmas.Bool.{and_left, and_right, or_from, cases_eq, cases_lt, le-ltb}
 use Rattle.std.proofs.lemmas.List.Folds.{list_all_at}

@@ -15,7 +15,8 @@ use Rattle.mj_deeds.specs.declared.deed.Deed.{Deed}
 use Rattle.mj_deeds.specs.declared.rule.Rule.{Rule}
 use Rattle.mj_wall.specs.declared.setting.Rules.{Rules}
 use Rattle.mj_rules.specs.View.{WindowTurn, Drew, Discarded, Added, Reached, Called, Nobodys, SeatView, view_of, held_count}
-use Rattle.mj_rules.specs.Broken.{is_that, is_no_tile, is_wrongly_marked, is_banned_tile, banned_in, is_open, is_reach_open, is_reach_poor, is_reach_late, is_reach_unready, discards_unready, questions, first_broken, broken_by}
+use Rattle.mj_rules.specs.Broken.{is_that, is_no_tile, is_wrongly_marked, is_banned_tile, banned_in, is_open, is_reach_open, is_reach_poor}
+use Rattle.mj_rules.specs.Broken.{is_reach_late, is_reach_unready, discards_unready, questions, first_broken, broken_by}
 use Rattle.mj_rules.specs.Possible.{is_lawful, discards_of}
 use Rattle.mj_judge.specs.Inner.Tried.{lawful_among, is_own_draw, is_discarding, is_winning}
 use Rattle.mj_rules.proofs.Listed.{lawful_clear}

@@ -1,5 +1,6 @@
 -- A discard that makes nothing with the tiles of a seat: it can neither be called nor won on.
-use Rattle.std.proofs.Common.{ℕ, ◌≡◌, ◌<◌, ◌≤◌, ◌+◌, ◌-◌, ◌*◌, ◌%◌, ◌∷◌, [], ◌++◌, ◌⊎◌, inl, inr, ◌&&◌, ◌||◌, ◌==◌, Bool, true, false, not, cond, eqb, ltb, min, List, length, get_or, length-set, get_or-set_same, refl, sym, subst, ap, ◌∙◌, arith}
+use Rattle.std.proofs.Common.{ℕ, ◌≡◌, ◌<◌, ◌≤◌, ◌+◌, ◌-◌, ◌*◌, ◌%◌, ◌∷◌, [], ◌++◌, ◌⊎◌, inl, inr, ◌&&◌, ◌||◌, ◌==◌, Bool, true, false, not}
+use Rattle.std.proofs.Common.{cond, eqb, ltb, min, List, length, get_or, length-set, get_or-set_same, refl, sym, subst, ap, ◌∙◌, arith}
 use Rattle.std.specs.Prelude.{Some, None, nat_lt, option_map, flat_map}
 use Rattle.std.proofs.lemmas.Bool.{cases_eq, cases_lt, le-ltb, lt-ltb, ltb-true, or_parts, or_cases, and_parts, both_ways, eqb-true, false_from_ne_true, not-false}
 use Rattle.mj_tiles.specs.Faces.{kind_of, tile_order}
@@ -27,7 +28,8 @@ use Rattle.mj_judge.specs.Inner.Tried.{lawful_among, is_own_draw, is_discarding}
 use Rattle.mj_judge.proofs.Alone.{stays, no_pairs, no_orphans, not_complete}
 use Rattle.mj_judge.proofs.Counted.{counted}
 use Rattle.mj_judge.proofs.FewHeld.{no_same}
-use Rattle.mj_judge.proofs.Tried.{Fails, none_pass, one_fails, lawful-append, not_held-chi, other_not_held-chi, not_run-chi, no_discards, no_closed_kans, no_added_kans, no_reach, no_nine_kinds, pass_lawful, pass_stands, all_tried}
+use Rattle.mj_judge.proofs.Tried.{Fails, none_pass, one_fails, lawful-append, not_held-chi, other_not_held-chi, not_run-chi, no_discards}
+use Rattle.mj_judge.proofs.Tried.{no_closed_kans, no_added_kans, no_reach, no_nine_kinds, pass_lawful, pass_stands, all_tried}
 
 no_company : (counts : List ℕ) (kind : ℕ) → has_company counts kind ≡ false → 0 < get_or counts kind 0 → ⊥
 unfolding has_company

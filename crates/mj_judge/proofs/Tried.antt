@@ -1,5 +1,6 @@
 -- What is tried of the answers that a seat may give, and why no other is lawful.
-use Rattle.std.proofs.Common.{◌≡◌, ℕ, ◌+◌, ◌-◌, ◌%◌, ◌<◌, ◌≤◌, ◌==◌, ◌&&◌, ◌||◌, ◌⊎◌, inl, inr, Bool, true, false, not, cond, eqb, ltb, List, [], ◌∷◌, ◌++◌, length, map, take, drop, get_or, refl, sym, ap, ◌∙◌, arith, append-nil, append_assoc}
+use Rattle.std.proofs.Common.{◌≡◌, ℕ, ◌+◌, ◌-◌, ◌%◌, ◌<◌, ◌≤◌, ◌==◌, ◌&&◌, ◌||◌, ◌⊎◌, inl, inr, Bool, true, false, not, cond, eqb, ltb, List}
+use Rattle.std.proofs.Common.{[], ◌∷◌, ◌++◌, length, map, take, drop, get_or, refl, sym, ap, ◌∙◌, arith, append-nil, append_assoc}
 use Rattle.std.specs.List.{list_any}
 use Rattle.std.specs.Prelude.{Option, Some, None, is_none, nat_lt, filter, flat_map, slice_index, All, bytes_eq, option_to_list, min}
 use Rattle.std.proofs.lemmas.Bool.{both_ways, false≢true, false_from_ne_true, and_parts, and_from, or_parts, or_cases, not-false, eq-eqb, eqb-true, ltb-false, le-leb, agree_below_at}
@@ -22,7 +23,8 @@ use Rattle.mj_deeds.specs.Facts.{is_pon}
 use Rattle.mj_wall.specs.declared.setting.Rules.{Rules}
 use Rattle.mj_rules.specs.View.{WindowTurn, Drew, Discarded, Added, Reached, Called, Nobodys, SeatView, view_of, held_count}
 use Rattle.mj_rules.specs.Broken.{is_open, is_before, is_wrongly_marked, is_not_nine, questions, first_broken, broken_by}
-use Rattle.mj_rules.specs.Possible.{is_lawful, faces_of, discards_of, all_discards, chis_with, all_chis, all_calls, closed_kans_of, all_closed_kans, added_kans_of, all_added_kans, triplets, all_wins, possible_by, possible}
+use Rattle.mj_rules.specs.Possible.{is_lawful, faces_of, discards_of, all_discards, chis_with, all_chis, all_calls, closed_kans_of}
+use Rattle.mj_rules.specs.Possible.{all_closed_kans, added_kans_of, all_added_kans, triplets, all_wins, possible_by, possible}
 use Rattle.mj_rules.proofs.Listed.{lawful_clear}
 use Rattle.mj_rules.proofs.ListedOrder.{of_all, all_mapped, all_joined}
 use Rattle.mj_judge.specs.Inner.Tried.{lawful_among, is_own_draw, is_discarding, is_winning, is_near, red_of}

@@ -3,7 +3,9 @@ ghost use Rattle.std.specs.Option.{option_map_or};
 ghost use Rattle.mj_deeds.specs.Facts.{newest, drawn_tile};
 ghost use Rattle.mj_deeds.specs.Hand.{hand};
 ghost use Rattle.mj_deeds.specs.Riichi.{is_in_riichi};
-ghost use Rattle.mj_rules.specs.Broken.{is_unreadable, actor_of, is_another, is_not_yours, is_own_act, is_discard, is_pass, is_win, is_pass_or_call, is_open, is_not_now, is_call_answer, is_kan_answer, is_own_kan, misses_discard, misses_winning, is_other_tile, is_wrong_target, is_tile, is_last_tile, is_before, is_not_left, is_kan_full, is_kan_dry};
+ghost use Rattle.mj_rules.specs.Broken.{is_unreadable, actor_of, is_another, is_not_yours, is_own_act, is_discard, is_pass, is_win, is_pass_or_call};
+ghost use Rattle.mj_rules.specs.Broken.{is_open, is_not_now, is_call_answer, is_kan_answer, is_own_kan, misses_discard, misses_winning, is_other_tile};
+ghost use Rattle.mj_rules.specs.Broken.{is_wrong_target, is_tile, is_last_tile, is_before, is_not_left, is_kan_full, is_kan_dry};
 ghost use Rattle.mj_rules.specs.View.{view_of, turn_by, turn_in};
 
 use mj_deeds::{Answer, Deed, Pai, next_seat};

@@ -1,7 +1,8 @@
 ghost use Rattle.std.specs.Prelude.{◌≡◌, ◌≤◌, not, option_map};
 ghost use Rattle.std.specs.List.{list_any};
 ghost use Rattle.mj_deeds.specs.Facts.{newest};
-ghost use Rattle.mj_rules.specs.Broken.{is_locked_answer, is_locked, is_changing_kan, is_riichi_kan_broken, is_reach, is_reach_open, is_reach_poor, is_reach_late, is_ready_without, discards_unready, is_reach_unready};
+ghost use Rattle.mj_rules.specs.Broken.{is_locked_answer, is_locked, is_changing_kan, is_riichi_kan_broken, is_reach, is_reach_open};
+ghost use Rattle.mj_rules.specs.Broken.{is_reach_poor, is_reach_late, is_ready_without, discards_unready, is_reach_unready};
 ghost use Rattle.mj_rules.specs.View.{view_of, turn_by, turn_in, concealed};
 
 use crate::counting::counts_without;

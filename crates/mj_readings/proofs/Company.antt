@@ -1,5 +1,6 @@
 -- A kind that is in no set and no pair with others completes no hand of sets and a pair.
-use Rattle.std.proofs.Common.{ℕ, ◌≡◌, ◌<◌, ◌≤◌, ◌+◌, ◌-◌, ◌++◌, ◌∷◌, [], Bool, true, false, cond, List, length, length-set, get_or, get_or-set_same, get_or-set_other, refl, sym, ◌∙◌, ap, arith, eqb, leb, ltb, zero, suc, ◌⊎◌, inl, inr, ◌&&◌, ◌||◌}
+use Rattle.std.proofs.Common.{ℕ, ◌≡◌, ◌<◌, ◌≤◌, ◌+◌, ◌-◌, ◌++◌, ◌∷◌, [], Bool, true, false, cond, List, length, length-set, get_or, get_or-set_same}
+use Rattle.std.proofs.Common.{get_or-set_other, refl, sym, ◌∙◌, ap, arith, eqb, leb, ltb, zero, suc, ◌⊎◌, inl, inr, ◌&&◌, ◌||◌}
 use Rattle.std.specs.List.{list_all, count_by, flat_map}
 use Rattle.std.proofs.lemmas.Bool.{and_parts, and_right, or_left, false_from_ne_true, false≢true, cases_lt, cases_eq, lt-ltb}
 use Rattle.std.proofs.lemmas.Bool.Decides.{nat_tests}

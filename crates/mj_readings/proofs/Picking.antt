@@ -1,5 +1,6 @@
 -- Picking an item of a list made of parts.
-use Rattle.std.proofs.Common.{ℕ, ◌≡◌, ◌<◌, ◌≤◌, ◌+◌, ◌-◌, ◌++◌, ◌∷◌, [], Bool, true, false, cond, List, length, map, refl, sym, ◌∙◌, ap, subst, arith, zero, suc, zero-add, Option, Some, None, Result, Ok, Err, eqb, leb, ◌&&◌, ◌||◌, append_assoc}
+use Rattle.std.proofs.Common.{ℕ, ◌≡◌, ◌<◌, ◌≤◌, ◌+◌, ◌-◌, ◌++◌, ◌∷◌, [], Bool, true, false, cond, List, length, map, refl, sym, ◌∙◌, ap, subst}
+use Rattle.std.proofs.Common.{arith, zero, suc, zero-add, Option, Some, None, Result, Ok, Err, eqb, leb, ◌&&◌, ◌||◌, append_assoc}
 use Rattle.std.specs.List.{slice_get, flat_map}
 use Rattle.std.specs.Option.{is_none, is_some}
 use Rattle.std.proofs.lemmas.List.{length-append, length-map, append-nil}

@@ -1,5 +1,6 @@
 -- Suits that refuse each tile more: what the pair that a suit lacks, and the sum of a suit, say of all its kinds at once.
-use Rattle.std.proofs.Common.{ℕ, ◌≡◌, ◌<◌, ◌≤◌, ◌+◌, ◌-◌, ◌*◌, ◌%◌, Bool, true, false, cond, List, length, length-set, get_or, get_or-set_other, refl, sym, subst, ◌∙◌, ap, arith, eqb, leb, ltb, ◌⊎◌, inl, inr, ◌&&◌, ◌||◌}
+use Rattle.std.proofs.Common.{ℕ, ◌≡◌, ◌<◌, ◌≤◌, ◌+◌, ◌-◌, ◌*◌, ◌%◌, Bool, true, false, cond, List, length, length-set, get_or}
+use Rattle.std.proofs.Common.{get_or-set_other, refl, sym, subst, ◌∙◌, ap, arith, eqb, leb, ltb, ◌⊎◌, inl, inr, ◌&&◌, ◌||◌}
 use Rattle.std.specs.Prelude.{not}
 use Rattle.std.specs.List.{count_by}
 use Rattle.std.proofs.lemmas.Bool.{and_parts, false_from_ne_true, false≢true, cases_lt, eq-eqb, leb-true, ltb-true}

@@ -1,5 +1,6 @@
 -- The sums of the suits of sets and a pair: no suit and no honour has a single tile over its threes.
-use Rattle.std.proofs.Common.{ℕ, ◌≡◌, ◌<◌, ◌≤◌, ◌+◌, ◌-◌, ◌*◌, ◌%◌, ◌++◌, ◌∷◌, [], Bool, true, false, cond, List, length, get_or, set, get_or-set_same, get_or-set_other, refl, sym, ◌∙◌, ap, arith, eqb, leb, ltb, zero, suc, add-zero, ◌⊎◌, inl, inr, ◌&&◌}
+use Rattle.std.proofs.Common.{ℕ, ◌≡◌, ◌<◌, ◌≤◌, ◌+◌, ◌-◌, ◌*◌, ◌%◌, ◌++◌, ◌∷◌, [], Bool, true, false, cond, List, length, get_or, set, get_or-set_same}
+use Rattle.std.proofs.Common.{get_or-set_other, refl, sym, ◌∙◌, ap, arith, eqb, leb, ltb, zero, suc, add-zero, ◌⊎◌, inl, inr, ◌&&◌}
 use Rattle.std.specs.List.{list_all, count_by, flat_map}
 use Rattle.std.specs.Prelude.{not}
 use Rattle.std.proofs.lemmas.Bool.{and_parts, and_from, false_from_ne_true, false≢true, cases_lt, eq-eqb, ne_eqb, le-leb, lt-ltb, le-ltb, ltb-true}

@@ -1,5 +1,6 @@
 -- Each sets in order and pair with the counts are one of the ways.
-use Rattle.std.proofs.Common.{ℕ, ◌≡◌, ◌<◌, ◌≤◌, ◌+◌, ◌-◌, ◌*◌, ◌++◌, ◌∷◌, [], Bool, true, false, cond, List, length, refl, sym, ◌∙◌, ap, subst, arith, lit<, ltb, ◌%◌, eqb, leb, replicate, zero, suc, Option, Some, None, ◌⊎◌, inl, inr, ◌&&◌, add-zero}
+use Rattle.std.proofs.Common.{ℕ, ◌≡◌, ◌<◌, ◌≤◌, ◌+◌, ◌-◌, ◌*◌, ◌++◌, ◌∷◌, [], Bool, true, false, cond, List, length, refl, sym, ◌∙◌, ap, subst}
+use Rattle.std.proofs.Common.{arith, lit<, ltb, ◌%◌, eqb, leb, replicate, zero, suc, Option, Some, None, ◌⊎◌, inl, inr, ◌&&◌, add-zero}
 use Rattle.std.specs.List.{list_all, Contains}
 use Rattle.std.proofs.lemmas.Bool.{and_parts, leb-true, le-leb, cases_eq, eq-eqb, ne_eqb, false≢true, ltb-true}
 use Rattle.std.proofs.lemmas.List.{length-append, length-replicate}

@@ -1,5 +1,6 @@
 -- Each way is given once.
-use Rattle.std.proofs.Common.{ℕ, ◌≡◌, ◌≢◌, ◌≤◌, ◌+◌, ◌-◌, ◌*◌, ◌++◌, ◌∷◌, [], Bool, true, false, cond, List, length, refl, ap, arith, eqb, leb, map, replicate, zero, suc, Option, Some, None, ◌&&◌, ◌||◌}
+use Rattle.std.proofs.Common.{ℕ, ◌≡◌, ◌≢◌, ◌≤◌, ◌+◌, ◌-◌, ◌*◌, ◌++◌, ◌∷◌, [], Bool, true, false, cond, List, length}
+use Rattle.std.proofs.Common.{refl, ap, arith, eqb, leb, map, replicate, zero, suc, Option, Some, None, ◌&&◌, ◌||◌}
 use Rattle.std.specs.List.{list_all, All}
 use Rattle.std.specs.Option.{is_none}
 use Rattle.std.proofs.lemmas.Bool.{and_parts, leb-true, eq-eqb, ne_eqb}

@@ -1,5 +1,6 @@
 -- What the ways are: each is sets in order and a pair with the counts, and each such sets and pair are one.
-use Rattle.std.proofs.Common.{ℕ, ◌≡◌, ◌<◌, ◌≤◌, ◌+◌, ◌-◌, ◌*◌, ◌++◌, ◌∷◌, [], Bool, true, false, cond, List, length, get_or, refl, sym, ◌∙◌, ap, arith, add-zero, eqb, leb, map, replicate, zero, suc, Option, Some, None, ◌⊎◌, inl, inr, ◌&&◌, ◌||◌}
+use Rattle.std.proofs.Common.{ℕ, ◌≡◌, ◌<◌, ◌≤◌, ◌+◌, ◌-◌, ◌*◌, ◌++◌, ◌∷◌, [], Bool, true, false, cond, List, length, get_or, refl, sym, ◌∙◌}
+use Rattle.std.proofs.Common.{ap, arith, add-zero, eqb, leb, map, replicate, zero, suc, Option, Some, None, ◌⊎◌, inl, inr, ◌&&◌, ◌||◌}
 use Rattle.std.specs.List.{list_all, Contains, All}
 use Rattle.std.specs.Option.{is_none}
 use Rattle.std.proofs.lemmas.Bool.{and_parts, leb-true, eq-eqb, ne_eqb}

@@ -30,7 +30,9 @@ use Rattle.mj_wall.specs.Places.{is_wall}
 use Rattle.mj_wall.proofs.WallFaces.{wall_faces}
 use Rattle.std.specs.List.{All}
 use Rattle.std.proofs.lemmas.List.Elements.{All-head, All-tail}
-use Rattle.mj_forms.specs.Lines.{quoted, bracketed, truth, quoted_tile, hidden_tile, points_text, call_object, bid_text, row_name, row_text, reason_name, hand_at_draw, line, start_game_line, start_hand_line, draw_line, discard_line, closed_kan_line, added_kan_line, dora_line, reach_line, reach_accepted_line, win_line, drawn_hand_line, end_hand_line, end_game_line}
+use Rattle.mj_forms.specs.Lines.{quoted, bracketed, truth, quoted_tile, hidden_tile, points_text, call_object, bid_text, row_name, row_text, reason_name}
+use Rattle.mj_forms.specs.Lines.{hand_at_draw, line, start_game_line, start_hand_line, draw_line, discard_line, closed_kan_line, added_kan_line}
+use Rattle.mj_forms.specs.Lines.{dora_line, reach_line, reach_accepted_line, win_line, drawn_hand_line, end_hand_line, end_game_line}
 use Rattle.mj_forms.specs.Headers.{switch_text, header_line, wall_line}
 use Rattle.mj_history.specs.Records.{are_rules, is_byte, is_word, is_signed_word, is_tile, are_points, are_hands, is_shown, are_shown, is_bid, is_row, is_deed}
 use Rattle.mj_records.proofs.FieldLaws.{own}

@@ -20,10 +20,14 @@ use Rattle.mj_deeds.specs.Shown.{Shown}
 use Rattle.mj_deeds.specs.declared.deed.Deed.{Deed}
 use Rattle.mj_deeds.specs.declared.deed.Deed.TheVariants.{Chi, Pon, OpenKan, EndHand}
 use Rattle.mj_history.specs.Records.{is_byte, is_word, is_signed_word, is_tile, are_points, are_hands, is_shown, are_shown, is_bid, is_row, is_deed}
-use Rattle.mj_records.specs.Inner.Fields.{and_rest, below, number_at, below_at, quoted_at, tile_at, negative_of, signed_by, signed_at, points_at, byte_field, word_field, tile_field, truth_field, signed_field, points_field}
-use Rattle.mj_records.specs.Inner.Lists.{behind_item, items_from, items_in, list_at, tiles_at, tiles_field, row_of, row_at, rows_field, marks_by, marks_from, marks_at, hidden_at, seats_with, seats_by, seats_field}
+use Rattle.mj_records.specs.Inner.Fields.{and_rest, below, number_at, below_at, quoted_at, tile_at, negative_of, signed_by, signed_at}
+use Rattle.mj_records.specs.Inner.Fields.{points_at, byte_field, word_field, tile_field, truth_field, signed_field, points_field}
+use Rattle.mj_records.specs.Inner.Lists.{behind_item, items_from, items_in, list_at, tiles_at, tiles_field, row_of, row_at, rows_field}
+use Rattle.mj_records.specs.Inner.Lists.{marks_by, marks_from, marks_at, hidden_at, seats_with, seats_by, seats_field}
 use Rattle.mj_records.specs.declared.results.Worth.{Worth}
-use Rattle.mj_records.specs.Deeds.{draw_in, discard_in, dora_in, reach_in, end_game_in, call_by, call_in, closed_kan_in, added_kan_in, name_of, name_field, start_game_in, bid_by, bid_in, reach_accepted_in, hands_at, start_by, kind_field, start_hand_in, worth_at, win_by, win_with, win_in, reason_at, shown_at, shown_field, drawn_by, drawn_with, drawn_hand_in, small_by, deed_by, deed_in}
+use Rattle.mj_records.specs.Deeds.{draw_in, discard_in, dora_in, reach_in, end_game_in, call_by, call_in, closed_kan_in, added_kan_in, name_of, name_field}
+use Rattle.mj_records.specs.Deeds.{start_game_in, bid_by, bid_in, reach_accepted_in, hands_at, start_by, kind_field, start_hand_in, worth_at, win_by}
+use Rattle.mj_records.specs.Deeds.{win_with, win_in, reason_at, shown_at, shown_field, drawn_by, drawn_with, drawn_hand_in, small_by, deed_by, deed_in}
 
 -- what is read, if anything, has a property
 unfoldable IfRead : {A : Type 0} → Option A → (A → Type 0) → Type 0

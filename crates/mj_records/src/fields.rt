@@ -1,7 +1,8 @@
 //! Fields that begin a text: each gives its value and what stands after it. What a field is followed by is not looked at.
 
 ghost use Rattle.std.specs.Prelude.{◌≡◌, ◌<◌, ◌≤◌, ◌^◌, length, take, drop, option_map, option_and_then, pos};
-ghost use Rattle.mj_records.specs.Inner.Fields.{digits_front, behind_digits, below, number_at, signed_at, negative_of, and_rest, points_at, quoted_at, tile_at, truth_at, byte_field, word_field, tile_field, truth_field, points_field, signed_field};
+ghost use Rattle.mj_records.specs.Inner.Fields.{digits_front, behind_digits, below, number_at, signed_at, negative_of, and_rest, points_at, quoted_at};
+ghost use Rattle.mj_records.specs.Inner.Fields.{tile_at, truth_at, byte_field, word_field, tile_field, truth_field, points_field, signed_field};
 
 use mj_bytes::{read_number, split_at_first, strip};
 use mj_tiles::Tile;

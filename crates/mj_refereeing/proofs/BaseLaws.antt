@@ -1,5 +1,6 @@
 -- The header and the walls that found a kept game.
-use Rattle.std.proofs.Common.{◌≡◌, ◌⊎◌, inl, inr, ⊎_elim, ℕ, ◌+◌, ◌-◌, ◌<◌, ◌≤◌, ◌==◌, Bool, true, false, List, [], ◌∷◌, ◌++◌, length, take, refl, ap, sym, ◌∙◌, subst, arith, append_assoc, length-append}
+use Rattle.std.proofs.Common.{◌≡◌, ◌⊎◌, inl, inr, ⊎_elim, ℕ, ◌+◌, ◌-◌, ◌<◌, ◌≤◌, ◌==◌, Bool, true, false, List, [], ◌∷◌}
+use Rattle.std.proofs.Common.{◌++◌, length, take, refl, ap, sym, ◌∙◌, subst, arith, append_assoc, length-append}
 use Rattle.std.specs.Prelude.{Some, None, Result, Ok, IfOk}
 use Rattle.std.specs.declared.alloc.AllocError.{AllocError}
 use Rattle.std.specs.List.{list_all}
@@ -7,7 +8,8 @@ use Rattle.std.proofs.lemmas.Bool.Decides.{nat_tests}
 use Rattle.mj_bytes.specs.Parts.{whole_lines, unfinished, BeginsWithLine, HasNoLine}
 use Rattle.mj_wall.specs.declared.setting.Rules.{Rules}
 use Rattle.mj_wall.specs.Places.{is_wall}
-use Rattle.mj_history.specs.Arrivals.{ArrivalForm, Header, WallOf, form_of, Intake, Arrival, Leads, Bad, arrives, first_line, header_arrives, intake_from, intake_on, Input, Ending, BadAt, at_end, input_of, nothing_read}
+use Rattle.mj_history.specs.Arrivals.{ArrivalForm, Header, WallOf, form_of, Intake, Arrival, Leads, Bad, arrives, first_line, header_arrives}
+use Rattle.mj_history.specs.Arrivals.{intake_from, intake_on, Input, Ending, BadAt, at_end, input_of, nothing_read}
 use Rattle.mj_refereeing.specs.declared.base.Base.{Base as Read}
 use Rattle.mj_refereeing.specs.declared.base.Founded.{Founded}
 use Rattle.mj_refereeing.specs.declared.form.ArrivalForm.{ArrivalForm as Form}

@@ -15,7 +15,9 @@ use Rattle.mj_forms.specs.Headers.{rules_of, tiles_in}
 use Rattle.mj_deeds.specs.declared.answer.Answer.{Answer}
 use Rattle.mj_history.specs.Legal.{can_say, can_expire}
 use Rattle.mj_history.specs.Sitting.{author_at, placing, entries_of_placing}
-use Rattle.mj_history.specs.Arrivals.{ArrivalForm, Header, WallOf, Sit, Say, Leave, Expire, NoForm, form_of, form_by, sit_form, say_form, expire_form, numbers_in, is_short, Intake, Arrival, Leads, Bad, at_end, intake_on, intake_from, arrives, first_line, behind_header, header_arrives, wall_arrives, sit_arrives, say_arrives, gone_arrives, expiry_arrives, with_entries, now_of, setting_of}
+use Rattle.mj_history.specs.Arrivals.{ArrivalForm, Header, WallOf, Sit, Say, Leave, Expire, NoForm, form_of, form_by, sit_form, say_form, expire_form, numbers_in}
+use Rattle.mj_history.specs.Arrivals.{is_short, Intake, Arrival, Leads, Bad, at_end, intake_on, intake_from, arrives, first_line, behind_header, header_arrives}
+use Rattle.mj_history.specs.Arrivals.{wall_arrives, sit_arrives, say_arrives, gone_arrives, expiry_arrives, with_entries, now_of, setting_of}
 use Rattle.mj_journal.specs.Calls.{IsLine}
 
 -- One list begins with another.

@@ -20,7 +20,8 @@ use Rattle.mj_forms.specs.AnswerForms.{answer_of, join_of}
 use Rattle.mj_history.specs.After.{After, Chair, Verdict, Taken, Late, Refused, Closing, is_present}
 use Rattle.mj_history.specs.Legal.{Game, may_say, can_say, is_open, can_expire}
 use Rattle.mj_history.specs.Sitting.{placing, entries_of_placing}
-use Rattle.mj_history.specs.Arrivals.{ArrivalForm, WallOf, form_of, Arrival, Leads, Bad, setting_of, with_entries, arrives, sit_arrives, say_arrives, gone_arrives, expiry_arrives, wall_arrives, behind_header}
+use Rattle.mj_history.specs.Arrivals.{ArrivalForm, WallOf, form_of, Arrival, Leads, Bad, setting_of, with_entries, arrives}
+use Rattle.mj_history.specs.Arrivals.{sit_arrives, say_arrives, gone_arrives, expiry_arrives, wall_arrives, behind_header}
 use Rattle.mj_history.proofs.Places.{none_behind}
 use Rattle.mj_core.specs.Calls.{after_of, Enters, TakesSeat, Answers, author_of_seat, may_say_at, may_expire, pending_at}
 use Rattle.mj_refereeing.specs.Inner.Intake.{intake_of, told_of, told_in, greeting, greeting_again, present_in, last_lines, InPlay}

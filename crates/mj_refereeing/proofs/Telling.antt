@@ -12,7 +12,8 @@ use Rattle.mj_deeds.specs.declared.deed.Deed.{Deed}
 use Rattle.mj_wall.specs.declared.setting.Rules.{Rules}
 use Rattle.mj_wall.specs.declared.setting.Setting.{Setting}
 use Rattle.mj_forms.specs.Lines.{error_text}
-use Rattle.mj_history.specs.After.{After, Chair, Connection, Progress, Verdict, Taken, Late, Refused, Closing, verdict_on, author_after, progress_after, pending, lines_for, is_present, new_chair, after_said, after_gone, own_part, next_deed, with_deed, step, script_at, scripts_at, scripts}
+use Rattle.mj_history.specs.After.{After, Chair, Connection, Progress, Verdict, Taken, Late, Refused, Closing, verdict_on, author_after, progress_after, pending, lines_for}
+use Rattle.mj_history.specs.After.{is_present, new_chair, after_said, after_gone, own_part, next_deed, with_deed, step, script_at, scripts_at, scripts}
 use Rattle.mj_history.specs.Legal.{Game}
 use Rattle.mj_history.proofs.Entries.{after-append}
 use Rattle.mj_history.proofs.Places.{slice_get-append_other, slice_get-set_at, slice_get-set_other}

@@ -9,7 +9,8 @@ use Rattle.mj_deeds.specs.declared.answer.Answer.{Answer}
 use Rattle.mj_wall.specs.declared.setting.Rules.{Rules}
 use Rattle.mj_wall.specs.Places.{is_wall}
 use Rattle.mj_history.specs.Legal.{Game}
-use Rattle.mj_history.specs.Arrivals.{ArrivalForm, Header, WallOf, Sit, Say, Leave, Expire, NoForm, form_of, Intake, setting_of, game_of, Arrival, Leads, Bad, sit_arrives, say_arrives, gone_arrives, expiry_arrives, wall_arrives, behind_header, arrives, Input, BadAt, intake_on, intake_from}
+use Rattle.mj_history.specs.Arrivals.{ArrivalForm, Header, WallOf, Sit, Say, Leave, Expire, NoForm, form_of, Intake, setting_of, game_of, Arrival, Leads, Bad, sit_arrives}
+use Rattle.mj_history.specs.Arrivals.{say_arrives, gone_arrives, expiry_arrives, wall_arrives, behind_header, arrives, Input, BadAt, intake_on, intake_from}
 use Rattle.mj_refereeing.specs.declared.intake.End.{End}
 use Rattle.mj_refereeing.specs.declared.intake.Question.{Question}
 use Rattle.mj_refereeing.specs.Referee.{ending}

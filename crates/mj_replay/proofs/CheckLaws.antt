@@ -24,7 +24,8 @@ use Rattle.mj_rules.proofs.Lengths.{few_deeds}
 use Rattle.mj_table.specs.Plays.{Play}
 use Rattle.mj_forms.specs.Lines.{line}
 use Rattle.mj_forms.specs.Headers.{header_line, wall_line}
-use Rattle.mj_history.specs.Records.{are_rules, are_walls, are_first_walls, Fault, WallFault, CutFault, Before, Nothing, Lines, AreLines, needs_wall, IsNextWall, BreaksByWall, LineBreaks, EndBreaks, Breaks, IsNoRecord}
+use Rattle.mj_history.specs.Records.{are_rules, are_walls, are_first_walls, Fault, WallFault, CutFault, Before, Nothing, Lines}
+use Rattle.mj_history.specs.Records.{AreLines, needs_wall, IsNextWall, BreaksByWall, LineBreaks, EndBreaks, Breaks, IsNoRecord}
 use Rattle.mj_forms.specs.RecordTexts.{record_text}
 use Rattle.mj_runs.specs.declared.cause.Cause.{Cause}
 use Rattle.mj_runs.specs.declared.cause.Cause.TheVariants as causes

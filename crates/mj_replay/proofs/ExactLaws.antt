@@ -15,10 +15,12 @@ use Rattle.mj_wall.specs.Places.{is_wall}
 use Rattle.mj_rules.specs.Outcome.{wall_of, outcome}
 use Rattle.mj_rules.specs.Played.{IsPlayedBehind, AllPlayed, IsPlayed}
 use Rattle.mj_rules.proofs.Playing.{each_is_wall, played_more}
-use Rattle.mj_forms.specs.Lines.{line, start_game_line, start_hand_line, draw_line, discard_line, call_object, closed_kan_line, added_kan_line, dora_line, reach_line, reach_accepted_line, win_line, drawn_hand_line, end_hand_line, end_game_line}
+use Rattle.mj_forms.specs.Lines.{line, start_game_line, start_hand_line, draw_line, discard_line, call_object, closed_kan_line, added_kan_line}
+use Rattle.mj_forms.specs.Lines.{dora_line, reach_line, reach_accepted_line, win_line, drawn_hand_line, end_hand_line, end_game_line}
 use Rattle.mj_history.specs.Told.{Summary, summary_of, told}
 use Rattle.mj_forms.specs.Headers.{header_line, wall_line}
-use Rattle.mj_history.specs.Records.{are_rules, are_walls, IsRecord, is_deed, IsLineOf, Fault, HeaderFault, WallFault, LineFault, NextFault, CutFault, Before, Nothing, Lines, text_before, number_before, are_first_walls, AreLines, IsSound, needs_wall, IsNextWall, BreaksByWall, LineBreaks, EndBreaks, Breaks, IsNoRecord}
+use Rattle.mj_history.specs.Records.{are_rules, are_walls, IsRecord, is_deed, IsLineOf, Fault, HeaderFault, WallFault, LineFault, NextFault, CutFault, Before, Nothing, Lines, text_before}
+use Rattle.mj_history.specs.Records.{number_before, are_first_walls, AreLines, IsSound, needs_wall, IsNextWall, BreaksByWall, LineBreaks, EndBreaks, Breaks, IsNoRecord}
 use Rattle.mj_forms.specs.RecordTexts.{record_text}
 use Rattle.mj_history.proofs.Told.{told_answers_give}
 use Rattle.mj_replay.specs.Checks.{AnswersAreExact}

@@ -42,7 +42,8 @@ use Rattle.mj_window.specs.Decided.{decision_by}
 use Rattle.mj_window.specs.declared.decision.Decision.{Decision}
 use Rattle.mj_window.specs.declared.decision.Decision.TheVariants.{Rons, Call, Act, Pass}
 use Rattle.mj_rules.specs.Draws.{drawn_hand, draw_shown, is_hand_shown, shown_where, hand_at_draw, hands_at_draw, ready_by}
-use Rattle.mj_rules.specs.Outcome.{wall_of, wall_now, hand_start, next_draw, next_dora, next_replacement, act_of, own_act, accept, behind_discard, called_or_draw, next_winner, others_of, after_pass, follows, outcome, won_tile, seat_of}
+use Rattle.mj_rules.specs.Outcome.{wall_of, wall_now, hand_start, next_draw, next_dora, next_replacement, act_of, own_act, accept, behind_discard}
+use Rattle.mj_rules.specs.Outcome.{called_or_draw, next_winner, others_of, after_pass, follows, outcome, won_tile, seat_of}
 use Rattle.mj_rules.specs.Played.{is_game_start, IsPlayedBehind, AllPlayed, IsPlayed}
 use Rattle.mj_rules.specs.Wins.{Shows, own_tiles_of, unders_of, extra_of, case_of, score_of_win, rows_of_win, win_changes, value_of_win, for_first, points_with, win_shown, win_deed}
 use Rattle.mj_rules.proofs.Answered.{IfAny}

@@ -17,7 +17,8 @@ use Rattle.mj_deeds.specs.Facts.{newest, tiles_gained, tiles_lost, seat_melds, i
 use Rattle.mj_deeds.specs.Fits.{ground_of, is_in_hand, taken_from, is_discard_of, are_held, is_triplet_of, is_face, has_tiles}
 use Rattle.mj_deeds.proofs.RealTiles.{member_passes, all_members, gained_real, melds_real, triplet_passes}
 use Rattle.mj_calls.specs.Shapes.{are_alike}
-use Rattle.mj_rules.specs.Broken.{is_not_now, is_reach_unready, questions, broken_by, is_stuck_call, is_no_such_tile, misses_discard, is_wrong_target, is_last_tile, is_not_held, is_locked, is_own_pon, is_bad_set, is_kan_full, is_kan_dry}
+use Rattle.mj_rules.specs.Broken.{is_not_now, is_reach_unready, questions, broken_by, is_stuck_call, is_no_such_tile, misses_discard, is_wrong_target}
+use Rattle.mj_rules.specs.Broken.{is_last_tile, is_not_held, is_locked, is_own_pon, is_bad_set, is_kan_full, is_kan_dry}
 use Rattle.mj_rules.specs.View.{WindowTurn, Discarded, turn_by, turn_in, SeatView, view_of, held_count}
 use Rattle.mj_deeds.specs.declared.bid.Bid.{Bid}
 use Rattle.mj_deeds.specs.declared.bid.Bid.TheVariants as bids

@@ -1,5 +1,6 @@
 -- A seat that called or reached has a tile that it may discard.
-use Rattle.std.proofs.Common.{◌≡◌, ℕ, zero, suc, ◌+◌, ◌-◌, ◌<◌, ◌==◌, inl, inr, ◌&&◌, ◌||◌, not, Bool, true, false, cond, eqb, ltb, List, [], ◌∷◌, ◌++◌, length, map, refl, ap, sym, ◌∙◌, subst, arith, append-nil, append_assoc}
+use Rattle.std.proofs.Common.{◌≡◌, ℕ, zero, suc, ◌+◌, ◌-◌, ◌<◌, ◌==◌, inl, inr, ◌&&◌, ◌||◌, not, Bool, true, false, cond, eqb, ltb}
+use Rattle.std.proofs.Common.{List, [], ◌∷◌, ◌++◌, length, map, refl, ap, sym, ◌∙◌, subst, arith, append-nil, append_assoc}
 use Rattle.std.specs.Prelude.{Option, Some, None, ℤ, nat_lt, nat_le, option_map, option_and_then, filter, flat_map, replicate, IsTrue}
 use Rattle.std.specs.List.{list_all, list_any}
 use Rattle.std.proofs.lemmas.Bool.{cases_eq, ne_eqb, eq-eqb, and_from, or_parts, leb-false, lt-ltb, not-true, not-false, true≢false}
@@ -46,7 +47,8 @@ use Rattle.mj_rules.specs.Played.{AllLawful, is_game_start, IsPlayedBehind, AllP
 use Rattle.mj_rules.proofs.Kept.{first_seat}
 use Rattle.mj_rules.proofs.Playing.{played_sound, played_more}
 use Rattle.mj_rules.proofs.Answered.{IfAny, Clean, clean_at, or_other, bid_next}
-use Rattle.mj_rules.proofs.Turns.{turn_is, called_opens, reached_opens, drew_opens, kept_call, won_or_acts, discards_only, won_or, rons_seated, draw_or, called_or, unless, behind_or, called_or_on, start_or_end}
+use Rattle.mj_rules.proofs.Turns.{turn_is, called_opens, reached_opens, drew_opens, kept_call, won_or_acts, discards_only}
+use Rattle.mj_rules.proofs.Turns.{won_or, rons_seated, draw_or, called_or, unless, behind_or, called_or_on, start_or_end}
 
 -- The faces that a seat holds and that pass a test, in tile order.
 abbrev pub held_faces : SeatView → (ℕ → Bool) → List ℕ

@@ -20,7 +20,8 @@ use Rattle.mj_wall.specs.Places.{replacement_tile}
 use Rattle.mj_wall.proofs.WallKinds.{up}
 use Rattle.mj_deeds.specs.Hand.{is_hand_start, hand, before_in, starts, hand_number}
 use Rattle.mj_rules.specs.Outcome.{wall_of, hand_dealt}
-use Rattle.mj_rules.proofs.Stages.{Stage, NoHand, stage_before, stage_after, stage_of, is_begun, owes_tile, is_replacement, at_place, brought_from, StandsAt, Brings, DealsWell, length-more, shown_step, taken_step, fresh_step, live_step, hands_step, brings_more}
+use Rattle.mj_rules.proofs.Stages.{Stage, NoHand, stage_before, stage_after, stage_of, is_begun, owes_tile, is_replacement, at_place, brought_from, StandsAt}
+use Rattle.mj_rules.proofs.Stages.{Brings, DealsWell, length-more, shown_step, taken_step, fresh_step, live_step, hands_step, brings_more}
 
 -- The first seat of a deed is a seat.
 pub first_seat : (who : ℕ) (rest : Bool) → (ltb who 4 && rest) ≡ true → who < 4

@@ -22,7 +22,8 @@ use Rattle.mj_wall.specs.declared.setting.Rules.{Rules}
 use Rattle.mj_rules.specs.View.{WindowTurn, Drew, Discarded, Added, Reached, Called, Nobodys, SeatView, view_of}
 use Rattle.mj_rules.specs.Broken.{is_no_tile, is_tile, is_alike, is_open, is_own_pon, misses_discard, misses_winning, questions, broken_by}
 use Rattle.mj_rules.specs.Played.{IsLawful}
-use Rattle.mj_rules.specs.Possible.{is_plain, is_lawful, faces_of, discards_of, all_discards, chis_with, all_chis, pons_of, open_kans_of, all_calls, closed_kans_of, all_closed_kans, added_kans_of, all_added_kans, triplets, all_wins, candidates, possible_by, possible, is_hidden_or_face, names_faces}
+use Rattle.mj_rules.specs.Possible.{is_plain, is_lawful, faces_of, discards_of, all_discards, chis_with, all_chis, pons_of, open_kans_of, all_calls, closed_kans_of, all_closed_kans}
+use Rattle.mj_rules.specs.Possible.{added_kans_of, all_added_kans, triplets, all_wins, candidates, possible_by, possible, is_hidden_or_face, names_faces}
 use Rattle.mj_rules.proofs.Questions.{AllNo, all_no}
 use Rattle.mj_rules.proofs.InTurn.{kept_member}
 

@@ -27,11 +27,15 @@ use Rattle.mj_deeds.specs.Course.{before_wins}
 use Rattle.mj_deeds.specs.Ends.{winners, standing_after}
 use Rattle.mj_deeds.specs.Standings.{standing}
 use Rattle.mj_pay.specs.Payments.{deposit_changes, draw_changes}
-use Rattle.mj_rules.specs.Wins.{seat_wind, is_draw, is_replacement, is_added, case_of, Shows, extra_by, extra_of, no_score, score_of_win, rows_of_win, win_changes, value_of_win, points_with, win_shown}
+use Rattle.mj_rules.specs.Wins.{seat_wind, is_draw, is_replacement, is_added, case_of, Shows, extra_by, extra_of, no_score}
+use Rattle.mj_rules.specs.Wins.{score_of_win, rows_of_win, win_changes, value_of_win, points_with, win_shown}
 use Rattle.mj_rules.specs.Draws.{ready_by, draw_shown}
 use Rattle.mj_rules.specs.View.{turn_by, turn_in, view_of}
 use Rattle.mj_rules.specs.Outcome.{accept}
-use Rattle.mj_deeds.proofs.Masked.{masked, all_masked, newest-masked, hand-masked, before_wins-masked, tiles_gained-masked, tiles_lost-masked, drawn_tile-masked, seat_melds-masked, is_in_riichi-masked, is_double-masked, is_ippatsu-masked, is_first-masked, own_kinds-masked, passed_kinds-masked, passed_in_riichi-masked, kans-masked, live_tiles-masked, indicators_all-masked, winners-masked, standing_after-masked, standing-masked, points-masked, points_of-masked, deposits-masked}
+use Rattle.mj_deeds.proofs.Masked.{masked, all_masked, newest-masked, hand-masked, before_wins-masked, tiles_gained-masked, tiles_lost-masked, drawn_tile-masked}
+use Rattle.mj_deeds.proofs.Masked.{seat_melds-masked, is_in_riichi-masked, is_double-masked, is_ippatsu-masked, is_first-masked, own_kinds-masked}
+use Rattle.mj_deeds.proofs.Masked.{passed_kinds-masked, passed_in_riichi-masked, kans-masked, live_tiles-masked, indicators_all-masked}
+use Rattle.mj_deeds.proofs.Masked.{winners-masked, standing_after-masked, standing-masked, points-masked, points_of-masked, deposits-masked}
 
 -- A fact of the newest hand, from that fact of a list.
 pub of_hand : {A : Type 0} (seat : ℕ) (f : List Deed → A) → ((ds : List Deed) → f ds ≡ f (all_masked seat ds)) → (ds : List Deed) → f (hand ds) ≡ f (hand (all_masked seat ds))

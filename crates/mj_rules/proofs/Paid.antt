@@ -1,5 +1,6 @@
 -- What a win is worth, and what is paid for it.
-use Rattle.std.proofs.Common.{◌≡◌, ℕ, zero, suc, ◌+◌, ◌-◌, ◌<◌, ◌==◌, ◌&&◌, not, Bool, true, false, cond, eqb, ltb, List, [], ◌∷◌, ◌++◌, length, refl, ap, sym, ◌∙◌, subst, arith, append-nil, append_assoc}
+use Rattle.std.proofs.Common.{◌≡◌, ℕ, zero, suc, ◌+◌, ◌-◌, ◌<◌, ◌==◌, ◌&&◌, not, Bool, true, false, cond, eqb, ltb, List}
+use Rattle.std.proofs.Common.{[], ◌∷◌, ◌++◌, length, refl, ap, sym, ◌∙◌, subst, arith, append-nil, append_assoc}
 use Rattle.std.specs.Prelude.{if◌then◌else◌, Option, Some, None, is_some, option_and_then, option_to_list, unwrap_or, count_by, filter, flat_map, fold, map, All, ℤ, pos}
 use Rattle.std.specs.List.{list_all, range_with_len, slice_index_or}
 use Rattle.std.proofs.lemmas.Bool.{and_from, and_parts, ne_eqb, not-false, ltb-true, lt-ltb, true≢false}
@@ -52,7 +53,8 @@ use Rattle.mj_rules.specs.Paid.{worth_by, LawfulWinsAreWorth, ShowsUnders, extra
 use Rattle.mj_rules.specs.Played.{IsLawful, AllLawful, IsPlayed}
 use Rattle.mj_rules.specs.Precedence.{wins_by, behind, winners_behind, offer_of}
 use Rattle.mj_rules.specs.View.{WindowTurn, turn_by, view_of}
-use Rattle.mj_rules.specs.Wins.{is_draw, case_of, own_tiles_of, unders_of, Shows, extra_by, extra_of, dora_row, dora_rows, no_score, score_of_win, rows_of_win, win_changes, value_of_win, for_first, win_shown, win_deed}
+use Rattle.mj_rules.specs.Wins.{is_draw, case_of, own_tiles_of, unders_of, Shows, extra_by, extra_of, dora_row, dora_rows, no_score}
+use Rattle.mj_rules.specs.Wins.{score_of_win, rows_of_win, win_changes, value_of_win, for_first, win_shown, win_deed}
 use Rattle.mj_rules.proofs.Balance.{is_unwon, nobody_yet}
 use Rattle.mj_rules.proofs.Given.{small_face}
 use Rattle.mj_rules.proofs.Questions.{all_no}

@@ -30,7 +30,8 @@ use Rattle.mj_rules.specs.Broken.{is_win, is_open, is_pass, is_pass_or_call, is_
 use Rattle.mj_rules.specs.Draws.{drawn_hand}
 use Rattle.mj_rules.specs.Outcome.{accept, called_or_draw, drawn_or, behind_discard, next_draw, follows, outcome, seat_of, won_tile, wall_now}
 use Rattle.mj_rules.specs.Played.{AllLawful}
-use Rattle.mj_rules.specs.Precedence.{wins_by, is_pon_or_kan, is_chi, taking, behind, winners_behind, offer_of, AllWinsCome, Answered, OnePonOrKan, OneChi, ComesOf, IsDecided, NobodyWins, PonOrKanComes, ChiComes, NothingIsCalled, KeptCallComes}
+use Rattle.mj_rules.specs.Precedence.{wins_by, is_pon_or_kan, is_chi, taking, behind, winners_behind, offer_of, AllWinsCome, Answered, OnePonOrKan}
+use Rattle.mj_rules.specs.Precedence.{OneChi, ComesOf, IsDecided, NobodyWins, PonOrKanComes, ChiComes, NothingIsCalled, KeptCallComes}
 use Rattle.mj_rules.specs.View.{WindowTurn, Discarded, SeatView, view_of}
 use Rattle.mj_rules.specs.Wins.{win_deed}
 use Rattle.mj_rules.proofs.Questions.{all_no}

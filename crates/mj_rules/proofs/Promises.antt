@@ -45,7 +45,8 @@ use Rattle.mj_rules.specs.Played.{AllLawful, is_game_start}
 use Rattle.mj_rules.proofs.Stages.{Waits, Acts, stage_of, newest_behind, stage_is}
 use Rattle.mj_rules.proofs.Kept.{first_seat, IsNext}
 use Rattle.mj_rules.proofs.Answered.{IfAny, Clean, clean_at, call_next}
-use Rattle.mj_rules.proofs.Turns.{Known as KnownBefore, kept_call, won_or_acts, discards_only, called_opens, reached_opens, drew_opens, rons_seated, won_or, draw_or, called_or, unless, behind_or, called_or_on, start_or_end}
+use Rattle.mj_rules.proofs.Turns.{Known as KnownBefore, kept_call, won_or_acts, discards_only, called_opens, reached_opens, drew_opens}
+use Rattle.mj_rules.proofs.Turns.{rons_seated, won_or, draw_or, called_or, unless, behind_or, called_or_on, start_or_end}
 
 -- The newest deed is a discard of the seat, right after a reach.
 abbrev pub Discarded : List Deed → ℕ → Type 0

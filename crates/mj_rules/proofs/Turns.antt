@@ -34,7 +34,8 @@ use Rattle.mj_rules.specs.Broken.{is_own_act, is_open, is_discard, is_pass}
 use Rattle.mj_rules.specs.View.{view_of, turn_by, turn_in, Drew, Called, Reached}
 use Rattle.mj_rules.specs.Wins.{win_deed}
 use Rattle.mj_wall.specs.declared.setting.Rules.{Rules}
-use Rattle.mj_rules.specs.Outcome.{hand_start, next_draw, next_dora, newest_kan_seat, next_replacement, act_of, own_act, won_tile, seat_of, accept, drawn_or, called_or_draw, behind_discard, next_winner, next_start, wall_now, follows, outcome, wall_of}
+use Rattle.mj_rules.specs.Outcome.{hand_start, next_draw, next_dora, newest_kan_seat, next_replacement, act_of, own_act, won_tile, seat_of, accept}
+use Rattle.mj_rules.specs.Outcome.{drawn_or, called_or_draw, behind_discard, next_winner, next_start, wall_now, follows, outcome, wall_of}
 use Rattle.mj_rules.specs.Draws.{drawn_hand}
 use Rattle.mj_rules.specs.Played.{AllLawful}
 use Rattle.mj_rules.proofs.Stages.{Waits, Acts, MadeKan, ShowedDora, stage_of, stage_is}

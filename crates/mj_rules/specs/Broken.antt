@@ -1,5 +1,6 @@
 -- Which rule an answer breaks, out of what its seat may know: the questions in the order of refusal, by subject.
-use Rattle.std.specs.Prelude.{ℕ, ◌==◌, ◌&&◌, ◌||◌, Bool, true, false, not, nat_lt, nat_le, List, [], ◌∷◌, ◌++◌, length, count_by, Option, Some, None, option_to_list, flat_map, pos, int_lt, if◌then◌else◌}
+use Rattle.std.specs.Prelude.{ℕ, ◌==◌, ◌&&◌, ◌||◌, Bool, true, false, not, nat_lt, nat_le, List, [], ◌∷◌, ◌++◌, length}
+use Rattle.std.specs.Prelude.{count_by, Option, Some, None, option_to_list, flat_map, pos, int_lt, if◌then◌else◌}
 use Rattle.std.specs.List.{list_any, list_all}
 use Rattle.std.specs.Option.{option_map_or}
 use Rattle.mj_tiles.specs.Faces.{is_red, number_in, kind_of, tile_order, less}

@@ -1,5 +1,6 @@
 -- A win: its circumstances, read off the deeds, what it is worth, and what each seat gains by it.
-use Rattle.std.specs.Prelude.{ℕ, ◌+◌, ◌-◌, ◌%◌, ◌==◌, Bool, true, false, nat_lt, if◌then◌else◌, List, [], ◌∷◌, ◌++◌, length, map, flat_map, sum_by, count_by, Option, Some, unwrap_or, ℤ, pos, ◌+ℤ◌, nat_abs}
+use Rattle.std.specs.Prelude.{ℕ, ◌+◌, ◌-◌, ◌%◌, ◌==◌, Bool, true, false, nat_lt, if◌then◌else◌, List, [], ◌∷◌, ◌++◌, length}
+use Rattle.std.specs.Prelude.{map, flat_map, sum_by, count_by, Option, Some, unwrap_or, ℤ, pos, ◌+ℤ◌, nat_abs}
 use Rattle.std.specs.List.{range_with_len, slice_index_or}
 use Rattle.mj_tiles.specs.Faces.{kind_of, is_red, after_kind, less}
 use Rattle.mj_tiles.specs.Counts.{number_of, kind_counts}

@@ -5,7 +5,8 @@
 ghost use Rattle.mj_rules.specs.Accepted.{AcceptedOfDiscard};
 ghost use Rattle.mj_rules.specs.Hands.{CompleteIsFound, WaitsAreFound, ReadyIsFound, ReadingsAreFound, WorthIsFound};
 ghost use Rattle.mj_rules.specs.Hands.{KansAreFound, SeatWaitsAreFound, NoYakuIsFound, LawfulWinsAreGreatest};
-ghost use Rattle.mj_rules.specs.Laws.{EachIsWall, PlayedWithOneMore, PlayedWithoutTheLast, PlayedDeedsFit, NextOfPlayedFits, SomeDeedFollows, SomeDiscardIsLawful, FittingDefaultIsLawful, PlayedDefaultIsLawful, TotalStays, FewDeeds, FewDraws, PlainIsListed, ListedIsPlain, ListedInTurn, PlayedInTurn};
+ghost use Rattle.mj_rules.specs.Laws.{EachIsWall, PlayedWithOneMore, PlayedWithoutTheLast, PlayedDeedsFit, NextOfPlayedFits, SomeDeedFollows, SomeDiscardIsLawful, FittingDefaultIsLawful};
+ghost use Rattle.mj_rules.specs.Laws.{PlayedDefaultIsLawful, TotalStays, FewDeeds, FewDraws, PlainIsListed, ListedIsPlain, ListedInTurn, PlayedInTurn};
 ghost use Rattle.mj_rules.specs.Paid.{LawfulWinsAreWorth, FirstRonIsPaid, FurtherRonsArePaid, OwnWinIsPaid};
 ghost use Rattle.mj_rules.specs.Precedence.{AllWinsCome, OnePonOrKan, OneChi, PonOrKanComes, ChiComes, NothingIsCalled, KeptCallComes};
 ghost use Rattle.mj_rules.specs.Said.{PointsAreRead};

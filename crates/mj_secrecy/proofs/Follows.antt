@@ -21,7 +21,9 @@ use Rattle.mj_deeds.specs.Points.{points, deposits}
 use Rattle.mj_deeds.specs.Course.{before_wins}
 use Rattle.mj_deeds.specs.Ends.{winners}
 use Rattle.mj_deeds.specs.Standings.{standing}
-use Rattle.mj_deeds.proofs.Masked.{masked, all_masked, gains-masked, tiles_gained-masked, tiles_lost-masked, drawn_tile-masked, river-masked, seat_melds-masked, has_reached-masked, is_in_riichi-masked, is_double-masked, is_ippatsu-masked, passed_kinds-masked, passed_in_riichi-masked, kans-masked, live_tiles-masked, indicators_all-masked, winners-masked, standing-masked, points-masked, deposits-masked}
+use Rattle.mj_deeds.proofs.Masked.{masked, all_masked, gains-masked, tiles_gained-masked, tiles_lost-masked, drawn_tile-masked, river-masked, seat_melds-masked}
+use Rattle.mj_deeds.proofs.Masked.{has_reached-masked, is_in_riichi-masked, is_double-masked, is_ippatsu-masked, passed_kinds-masked, passed_in_riichi-masked}
+use Rattle.mj_deeds.proofs.Masked.{kans-masked, live_tiles-masked, indicators_all-masked, winners-masked, standing-masked, points-masked, deposits-masked}
 use Rattle.mj_wall.specs.declared.setting.Rules.{Rules}
 use Rattle.mj_view.specs.Tokens.{token}
 use Rattle.mj_view.specs.Seen.{own_tile}

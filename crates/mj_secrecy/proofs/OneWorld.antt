@@ -25,7 +25,9 @@ use Rattle.mj_rules.specs.View.{SeatView, view_of}
 use Rattle.mj_rules.specs.Outcome.{outcome, wall_of}
 use Rattle.mj_rules.proofs.Playing.{each_is_wall}
 use Rattle.mj_rules.proofs.Dealing.{hand_has_thirteen}
-use Rattle.mj_history.specs.After.{After, Chair, Connection, Progress, Verdict, Taken, Late, Refused, Closing, verdict, verdict_on, author_after, slots_after, progress_after, lines_for, told_again, is_present, after_said, after_gone, after_back, own_part, next_deed, names_of, answers_in, is_window_closed, with_deed, step, after_from, after, before_all, script_at, connections_at, connections, scripts_at, scripts}
+use Rattle.mj_history.specs.After.{After, Chair, Connection, Progress, Verdict, Taken, Late, Refused, Closing, verdict, verdict_on, author_after, slots_after, progress_after}
+use Rattle.mj_history.specs.After.{lines_for, told_again, is_present, after_said, after_gone, after_back, own_part, next_deed, names_of, answers_in}
+use Rattle.mj_history.specs.After.{is_window_closed, with_deed, step, after_from, after, before_all, script_at, connections_at, connections, scripts_at, scripts}
 use Rattle.mj_view.specs.Tokens.{token}
 use Rattle.mj_secrecy.specs.Trace.{Item, own_items, seen_items, trace_from, trace, Agree}
 use Rattle.mj_history.specs.Legal.{is_permitted, all_permitted, IsLegal, Game, has_wall}
@@ -37,7 +39,8 @@ use Rattle.mj_history.proofs.Places.{slice_get-append_other, slice_get-set_at, s
 use Rattle.mj_history.proofs.Filled.{others_slot}
 use Rattle.mj_secrecy.proofs.Rebuilt.{rebuilt, IsTold, DealsThirteen, Only, only_none, only_some, by_choice, outcome_is_told}
 use Rattle.mj_history.proofs.Seats.{AreSeats, no_seats, step_seats, legal_seats}
-use Rattle.mj_secrecy.proofs.Solo.{Part, Solo, untimed, untimed_verdict, untimed_lines, at_first, slot_after, judged, left, next_due, after_answer, after_leaving, after_return, learns_all, learns_all-append, solo_connections, told_by}
+use Rattle.mj_secrecy.proofs.Solo.{Part, Solo, untimed, untimed_verdict, untimed_lines, at_first, slot_after, judged, left, next_due, after_answer}
+use Rattle.mj_secrecy.proofs.Solo.{after_leaving, after_return, learns_all, learns_all-append, solo_connections, told_by}
 
 -- what decides the bytes of a seat that is held
 abbrev pub part_of : Chair → Part

@@ -32,7 +32,8 @@ use Rattle.mj_window.specs.declared.decision.Decision.{Decision}
 use Rattle.mj_window.specs.declared.decision.Decision.TheVariants.{Pass}
 use Rattle.mj_rules.specs.Wins.{Shows, win_shown, win_deed}
 use Rattle.mj_rules.specs.Draws.{hands_at_draw, draw_shown, drawn_hand}
-use Rattle.mj_rules.specs.Outcome.{outcome, follows, wall_now, hand_start, next_draw, next_dora, next_replacement, act_of, own_act, of_one, of_two, of_three, of_four, wall_of, hand_dealt, accept, drawn_or, called_or_draw, behind_discard, next_winner, next_start, won_tile}
+use Rattle.mj_rules.specs.Outcome.{outcome, follows, wall_now, hand_start, next_draw, next_dora, next_replacement, act_of, own_act, of_one, of_two, of_three}
+use Rattle.mj_rules.specs.Outcome.{of_four, wall_of, hand_dealt, accept, drawn_or, called_or_draw, behind_discard, next_winner, next_start, won_tile}
 use Rattle.mj_view.specs.Tokens.{token}
 use Rattle.mj_view.specs.Seen.{own_tile}
 use Rattle.mj_deeds.proofs.Masked.{masked, all_masked, seen_or_blank, hands_masked, newest-masked, points-masked, deposits-masked}

@@ -14,7 +14,8 @@ use Rattle.mj_connection.specs.declared.stage.SeatAt.{SeatAt}
 use Rattle.mj_connection.specs.declared.stage.Connection.{Connection}
 use Rattle.mj_connection.specs.Stages.{place_of}
 use Rattle.mj_connection.specs.Spoken.{Spoke}
-use Rattle.mj_session.specs.Sessions.{Ended, GameOver, PeerEnded, LinkFault, LineTooLong, TooManyRefusals, NotSeated, NoMemory, IsExcused, LeavesOut, HistoryEnds, NoSeatFor, last_entry, turned_away, SeatlessSession, SessionAt}
+use Rattle.mj_session.specs.Sessions.{Ended, GameOver, PeerEnded, LinkFault, LineTooLong, TooManyRefusals, NotSeated, NoMemory, IsExcused}
+use Rattle.mj_session.specs.Sessions.{LeavesOut, HistoryEnds, NoSeatFor, last_entry, turned_away, SeatlessSession, SessionAt}
 use Rattle.mj_session.specs.Inner.Talks.{EndsAs, Ends}
 use Rattle.mj_session.specs.Wires.{WireState, Took, ToldInPart}
 use Rattle.mj_session.proofs.Wiring.{told_more}

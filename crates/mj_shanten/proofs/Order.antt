@@ -1,5 +1,6 @@
 -- The lexicographically greatest counts have the lexicographically least sorted list of kinds.
-use Rattle.std.proofs.Common.{ℕ, ◌≡◌, ◌≢◌, ◌<◌, ◌≤◌, ◌+◌, ◌-◌, ◌++◌, ◌∷◌, [], List, length, get_or, sum, replicate, refl, sym, ◌∙◌, ap, ap₂, subst, arith, zero, suc, inl, inr, Ordering, Less, Equal, Greater}
+use Rattle.std.proofs.Common.{ℕ, ◌≡◌, ◌≢◌, ◌<◌, ◌≤◌, ◌+◌, ◌-◌, ◌++◌, ◌∷◌, [], List, length, get_or, sum, replicate, refl}
+use Rattle.std.proofs.Common.{sym, ◌∙◌, ap, ap₂, subst, arith, zero, suc, inl, inr, Ordering, Less, Equal, Greater}
 use Rattle.std.specs.List.{flat_map, range_with_len}
 use Rattle.std.specs.Ordering.{nat_cmp, ordering_then}
 use Rattle.std.specs.Cmp.Lexicographic.{slice_cmp}

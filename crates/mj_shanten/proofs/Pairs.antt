@@ -1,5 +1,6 @@
 -- The nearest pairs: no other pairs miss fewer, and of those that miss as few none is lexicographically greater.
-use Rattle.std.proofs.Common.{ℕ, ◌≡◌, ◌≢◌, ◌<◌, ◌≤◌, ◌+◌, ◌-◌, ◌*◌, ◌++◌, ◌∷◌, [], Bool, true, false, cond, eqb, leb, ltb, ◌||◌, List, length, get_or, set, take, drop, refl, sym, ◌∙◌, ap, ap₂, subst, arith, zero, suc, ◌⊎◌, inl, inr}
+use Rattle.std.proofs.Common.{ℕ, ◌≡◌, ◌≢◌, ◌<◌, ◌≤◌, ◌+◌, ◌-◌, ◌*◌, ◌++◌, ◌∷◌, [], Bool, true, false, cond, eqb, leb, ltb, ◌||◌, List}
+use Rattle.std.proofs.Common.{length, get_or, set, take, drop, refl, sym, ◌∙◌, ap, ap₂, subst, arith, zero, suc, ◌⊎◌, inl, inr}
 use Rattle.std.specs.List.{count_by, list_all}
 use Rattle.std.specs.Ordering.{nat_cmp, is_gt}
 use Rattle.std.specs.Cmp.Lexicographic.{slice_cmp}

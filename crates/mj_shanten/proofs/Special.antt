@@ -1,5 +1,6 @@
 -- What seven pairs and thirteen orphans miss at least, and the fewest that a complete hand misses.
-use Rattle.std.proofs.Common.{◌≡◌, ◌⊎◌, cond, eqb, ℕ, zero, suc, ◌+◌, ◌-◌, ◌<◌, ◌≤◌, Bool, true, false, Option, None, Some, List, [], ◌∷◌, ◌++◌, map, min, length, take, get_or, set, get_or-set_other, get_or-set_same, refl, sym, subst, ap, ◌∙◌, inl, inr, arith}
+use Rattle.std.proofs.Common.{◌≡◌, ◌⊎◌, cond, eqb, ℕ, zero, suc, ◌+◌, ◌-◌, ◌<◌, ◌≤◌, Bool, true, false, Option, None, Some, List, [], ◌∷◌, ◌++◌, map}
+use Rattle.std.proofs.Common.{min, length, take, get_or, set, get_or-set_other, get_or-set_same, refl, sym, subst, ap, ◌∙◌, inl, inr, arith}
 use Rattle.std.specs.Prelude.{IsSomeAnd}
 use Rattle.std.proofs.lemmas.Bool.{cases_eq, cases_lt, eq-eqb, ne_eqb}
 use Rattle.std.proofs.lemmas.List.{ext_get_or, length-set, length-take-le, get_or-take}

@@ -1,5 +1,6 @@
 -- How many tiles a complete hand has.
-use Rattle.std.proofs.Common.{ℕ, ◌≡◌, ◌≢◌, ◌<◌, ◌≤◌, ◌+◌, ◌-◌, ◌*◌, ◌++◌, ◌∷◌, [], Bool, true, cond, eqb, ltb, not, ◌||◌, List, length, map, sum, refl, sym, ◌∙◌, ap, ap₂, arith, zero, suc, ◌⊎◌, inl, inr}
+use Rattle.std.proofs.Common.{ℕ, ◌≡◌, ◌≢◌, ◌<◌, ◌≤◌, ◌+◌, ◌-◌, ◌*◌, ◌++◌, ◌∷◌, [], Bool, true, cond, eqb, ltb, not, ◌||◌}
+use Rattle.std.proofs.Common.{List, length, map, sum, refl, sym, ◌∙◌, ap, ap₂, arith, zero, suc, ◌⊎◌, inl, inr}
 use Rattle.std.specs.List.{count_by, flat_map, list_all, range_with_len}
 use Rattle.std.proofs.lemmas.Bool.{and_parts, cases_eq, eq-eqb, ne_eqb, eqb-true, ltb-true, or_cases, agree_below_at, false≢true}
 use Rattle.std.proofs.lemmas.Bool.Decides.{nat_tests}

@@ -2,7 +2,8 @@
 use Rattle.std.proofs.Common.{◌≡◌, ◌≢◌, inl, inr, zero, suc, ◌-◌, set, Bool, true, false, ℕ, ◌+◌, ◌<◌, ◌≤◌, List, [], ◌∷◌, ◌++◌, length, get_or, take, drop, refl, sym, subst, ap, ap₂, ◌∙◌, arith}
 use Rattle.std.specs.Prelude.{EachIndex}
 use Rattle.std.specs.List.{flat_map}
-use Rattle.std.proofs.lemmas.List.{append-nil, take_all, take-append-drop, length-take-le, length-drop, drop-drop, get_or-take, get_or-drop, append_assoc, take_at, get_or_append_left, get_or-append_right, length-set, drop-set-add, take-set-le}
+use Rattle.std.proofs.lemmas.List.{append-nil, take_all, take-append-drop, length-take-le, length-drop, drop-drop, get_or-take, get_or-drop}
+use Rattle.std.proofs.lemmas.List.{append_assoc, take_at, get_or_append_left, get_or-append_right, length-set, drop-set-add, take-set-le}
 use Rattle.std.proofs.Common.{get_or-set_other, get_or-set_same}
 use Rattle.std.proofs.lemmas.Bool.{cases_lt, cases_eq}
 use Rattle.mj_shanten.specs.Room.{IsWithinRoom}

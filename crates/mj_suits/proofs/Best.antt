@@ -1,5 +1,6 @@
 -- The walk gives exactly what the best tiles leave: none leave more, and where something is left some tiles leave it.
-use Rattle.std.proofs.Common.{◌≡◌, ◌⊎◌, ◌&&◌, eqb, cond, ℕ, zero, suc, ◌+◌, ◌-◌, ◌*◌, ◌<◌, ◌≤◌, Bool, true, false, max, List, [], ◌∷◌, drop, length, get_or, refl, sym, subst, ap, ap₂, ◌∙◌, inl, inr, arith}
+use Rattle.std.proofs.Common.{◌≡◌, ◌⊎◌, ◌&&◌, eqb, cond, ℕ, zero, suc, ◌+◌, ◌-◌, ◌*◌, ◌<◌, ◌≤◌, Bool, true, false, max}
+use Rattle.std.proofs.Common.{List, [], ◌∷◌, drop, length, get_or, refl, sym, subst, ap, ap₂, ◌∙◌, inl, inr, arith}
 use Rattle.std.proofs.lemmas.Bool.{cases_lt, cases_eq, cases_Bool, cases_cond, eqb-true, and_parts}
 use Rattle.std.proofs.lemmas.List.{get_or_past, get_or-drop, length-drop}
 use Rattle.mj_suits.specs.Rows.{price, prices, most_left, begun, begun_by_tiles, stepped, walked}

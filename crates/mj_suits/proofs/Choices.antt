@@ -1,5 +1,6 @@
 -- The choice from number to number.
-use Rattle.std.proofs.Common.{◌≡◌, ◌≢◌, ◌⊎◌, ◌&&◌, eqb, cond, ℕ, suc, ◌+◌, ◌-◌, ◌*◌, ◌/◌, ◌%◌, ◌<◌, ◌≤◌, Bool, true, false, Option, None, Some, List, [], ◌∷◌, ◌++◌, take, drop, set, length, get_or, refl, sym, subst, ap, ap₂, ◌∙◌, inl, inr, arith, append_assoc, append-nil, Greater}
+use Rattle.std.proofs.Common.{◌≡◌, ◌≢◌, ◌⊎◌, ◌&&◌, eqb, cond, ℕ, suc, ◌+◌, ◌-◌, ◌*◌, ◌/◌, ◌%◌, ◌<◌, ◌≤◌, Bool, true, false, Option, None, Some, List, [], ◌∷◌}
+use Rattle.std.proofs.Common.{◌++◌, take, drop, set, length, get_or, refl, sym, subst, ap, ap₂, ◌∙◌, inl, inr, arith, append_assoc, append-nil, Greater}
 use Rattle.std.specs.Prelude.{MatchOption}
 use Rattle.std.specs.Ordering.{nat_cmp}
 use Rattle.std.specs.Cmp.Lexicographic.{slice_cmp}
@@ -13,7 +14,8 @@ use Rattle.mj_suits.specs.Targets.{missing, IsTarget}
 use Rattle.mj_suits.specs.Sets.{counts_of, tiles_of_sets, tiles_of_pair}
 use Rattle.mj_suits.specs.declared.sets.SuitSet.{SuitSet}
 use Rattle.mj_suits.specs.Inner.Ends.{Goes, Ends}
-use Rattle.mj_suits.specs.Inner.Choosing.{rooms, helds, IsState, AreLevels, AreNumbers, Goes_on, By, ByBegin, ByTiles, tiles_at, IsBegin, MayBegin, LeavesAsMany, sets_alone, with_pair, IsTooMany, IsWay, InWays, NoWay, AreWays, AreMostWays, next_of, IsPlan, IsGreatest, GreaterOf}
+use Rattle.mj_suits.specs.Inner.Choosing.{rooms, helds, IsState, AreLevels, AreNumbers, Goes_on, By, ByBegin, ByTiles, tiles_at, IsBegin, MayBegin, LeavesAsMany}
+use Rattle.mj_suits.specs.Inner.Choosing.{sets_alone, with_pair, IsTooMany, IsWay, InWays, NoWay, AreWays, AreMostWays, next_of, IsPlan, IsGreatest, GreaterOf}
 use Rattle.mj_suits.specs.declared.choosing.Aim.{Aim}
 use Rattle.mj_suits.specs.declared.choosing.Level.{Level}
 use Rattle.mj_suits.specs.declared.choosing.Plan.{Plan}

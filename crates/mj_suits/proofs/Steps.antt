@@ -7,7 +7,8 @@ use Rattle.mj_suits.specs.Inner.Search.{place, SetsFrom, PairFrom, first_pair, C
 use Rattle.mj_suits.specs.declared.sets.SuitSet.{SuitSet}
 use Rattle.mj_suits.specs.declared.sets.Split.{Split}
 use Rattle.mj_suits.proofs.Lists.{AreAll-append, AreAll-same, AreAll-none}
-use Rattle.mj_suits.proofs.Tiles.{count_of-append, place-injective, place-apart, count_of-below_set, count_of-below_sets, count_of-below_pair, count_of-pair, SetsFrom-earlier, SetsFrom-later, PairFrom-earlier, PairFrom-later}
+use Rattle.mj_suits.proofs.Tiles.{count_of-append, place-injective, place-apart, count_of-below_set, count_of-below_sets, count_of-below_pair}
+use Rattle.mj_suits.proofs.Tiles.{count_of-pair, SetsFrom-earlier, SetsFrom-later, PairFrom-earlier, PairFrom-later}
 
 -- ---- what two searches in a row find
 

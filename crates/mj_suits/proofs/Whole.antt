@@ -1,5 +1,6 @@
 -- The ends of the search: a split that is found, and the whole of it.
-use Rattle.std.proofs.Common.{◌≡◌, ◌&&◌, ◌||◌, not, eqb, ltb, Bool, true, false, ℕ, ◌+◌, ◌*◌, ◌<◌, ◌≤◌, Option, None, Some, List, [], ◌∷◌, ◌++◌, length, get_or, refl, sym, subst, ap, ap₂, ◌∙◌, inl, inr, arith, append-nil, ext_get_or}
+use Rattle.std.proofs.Common.{◌≡◌, ◌&&◌, ◌||◌, not, eqb, ltb, Bool, true, false, ℕ, ◌+◌, ◌*◌, ◌<◌, ◌≤◌, Option, None, Some, List, []}
+use Rattle.std.proofs.Common.{◌∷◌, ◌++◌, length, get_or, refl, sym, subst, ap, ap₂, ◌∙◌, inl, inr, arith, append-nil, ext_get_or}
 use Rattle.std.specs.List.{list_all}
 use Rattle.std.proofs.lemmas.Bool.{cases_lt, cases_Bool, false≢true, ltb-true, lt-ltb, le-ltb, eqb-true, eq-eqb, and_parts, and_from, or_cases, or_left, or_right, agree_below_at}
 use Rattle.std.proofs.lemmas.List.{get_or-map}

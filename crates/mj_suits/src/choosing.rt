@@ -2,7 +2,8 @@
 //! lowest number on the most tiles with which as much is left, by the rows of the walk.
 
 ghost use Rattle.std.specs.Prelude.{◌≡◌, ◌≤◌, ◌<◌, ◌+◌, ◌*◌, ◌-◌, ◌/◌, ◌%◌, true, false, ℕ, List, [], ◌∷◌, Option, None, Some, MatchOption, MatchBool, take};
-ghost use Rattle.mj_suits.specs.Inner.Choosing.{By, ByBegin, IsPlan, IsGreatest, GreaterOf, IsBegin, MayBegin, LeavesAsMany, IsMost, IsWay, InWays, NoWay, AreWays, AreMostWays, tiles_of, tiles_at, first_plan, next_of};
+ghost use Rattle.mj_suits.specs.Inner.Choosing.{By, ByBegin, IsPlan, IsGreatest, GreaterOf, IsBegin, MayBegin, LeavesAsMany, IsMost};
+ghost use Rattle.mj_suits.specs.Inner.Choosing.{IsWay, InWays, NoWay, AreWays, AreMostWays, tiles_of, tiles_at, first_plan, next_of};
 
 use crate::row::Row;
 use crate::walk::Rows;

@@ -1,5 +1,6 @@
 -- Counts by kind, one tile after another.
-use Rattle.std.proofs.Common.{ℕ, ◌≡◌, ◌<◌, ◌≤◌, ◌+◌, ◌++◌, ◌∷◌, [], Bool, true, false, cond, List, length, get_or, set, take, drop, refl, sym, ◌∙◌, arith, eqb, length-set, get_or-set_same, get_or-set_other, ap, replicate, ◌⊎◌, inl, inr}
+use Rattle.std.proofs.Common.{ℕ, ◌≡◌, ◌<◌, ◌≤◌, ◌+◌, ◌++◌, ◌∷◌, [], Bool, true, false, cond, List, length, get_or, set, take, drop, refl}
+use Rattle.std.proofs.Common.{sym, ◌∙◌, arith, eqb, length-set, get_or-set_same, get_or-set_other, ap, replicate, ◌⊎◌, inl, inr}
 use Rattle.std.proofs.lemmas.Bool.{cases_eq, cases_lt, eq-eqb}
 use Rattle.std.proofs.lemmas.List.{take-append-drop, take_more, set_past}
 use Rattle.std.proofs.lemmas.List.Sums.{sum_by-append, sum_by_push}

@@ -30,7 +30,8 @@ use Rattle.mj_history.proofs.Entries.{after-append, all_permitted-append}
 use Rattle.mj_umpire.specs.Calls.{after_of, IsSitAnswer, Answers, IsHeard, verdict_at, open_window, may_say_at, pending_at, line_of, author_of_seat}
 use Rattle.mj_umpire.specs.Inner.Untold.{untold_chair, untold}
 use Rattle.mj_umpire.specs.Inner.Verdicts.{verdict_given, heard_by}
-use Rattle.mj_umpire.specs.Inner.States.{Position, nobody, now_of, player_in, HasWalls, MayAdd, Steps, IsInOrder, IsPatientAt, is_due, is_present_in, placed_in, CanTakeSeat, CanTakeBack, CanHear, Hears, state_verdict, CanLeave, CanExpire}
+use Rattle.mj_umpire.specs.Inner.States.{Position, nobody, now_of, player_in, HasWalls, MayAdd, Steps, IsInOrder, IsPatientAt, is_due, is_present_in}
+use Rattle.mj_umpire.specs.Inner.States.{placed_in, CanTakeSeat, CanTakeBack, CanHear, Hears, state_verdict, CanLeave, CanExpire}
 use Rattle.mj_umpire.specs.Inner.Kept.{IsKept}
 use Rattle.mj_umpire.specs.declared.chair.Chair.{Chair as Player}
 use Rattle.mj_umpire.specs.declared.verdict.Verdict.{Verdict as Judged}

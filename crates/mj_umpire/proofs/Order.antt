@@ -21,7 +21,8 @@ use Rattle.mj_wall.specs.declared.setting.Setting.{Setting}
 use Rattle.mj_window.specs.Slots.{empty_slots, put_at}
 use Rattle.mj_rules.specs.Broken.{broken_rule}
 use Rattle.mj_wall.specs.declared.setting.Rules.{Rules}
-use Rattle.mj_history.specs.After.{After, Chair, Verdict, Taken, Late, Refused, Closing, verdict, progress_after, author_after, slots_after, lines_for, after_said, after_gone, after_back, new_chair, own_part, next_deed, with_deed, step, before_all, after_from, after}
+use Rattle.mj_history.specs.After.{After, Chair, Verdict, Taken, Late, Refused, Closing, verdict, progress_after, author_after, slots_after, lines_for}
+use Rattle.mj_history.specs.After.{after_said, after_gone, after_back, new_chair, own_part, next_deed, with_deed, step, before_all, after_from, after}
 use Rattle.mj_history.specs.Legal.{has_name, can_sit, is_present_by, may_say, can_say, can_return, is_permitted, all_permitted, IsLegal}
 use Rattle.mj_history.proofs.Places.{slice_get-set_at, slice_get-set_other}
 use Rattle.mj_umpire.specs.Inner.Untold.{untold_chair, untold}

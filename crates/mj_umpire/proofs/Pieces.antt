@@ -28,7 +28,8 @@ use Rattle.mj_history.specs.Sitting.{held_of}
 use Rattle.mj_history.specs.Laws.{CanGoOn}
 use Rattle.mj_umpire.specs.Calls.{open_window}
 use Rattle.mj_umpire.specs.Inner.Untold.{untold}
-use Rattle.mj_umpire.specs.Inner.States.{Position, presence_at, desk_names, chair_of, chairs_of, player_in, AreSeated, progress_of, player_of, now_of, Steps, HasWalls, MayAdd, changed, desk_after, with_next, Settles, IsStarted, CanSettle, IsInOrder, IsPatient, IsPatientAt, is_due, is_present_in, CanHear, Hears}
+use Rattle.mj_umpire.specs.Inner.States.{Position, presence_at, desk_names, chair_of, chairs_of, player_in, AreSeated, progress_of, player_of, now_of, Steps, HasWalls, MayAdd, changed}
+use Rattle.mj_umpire.specs.Inner.States.{desk_after, with_next, Settles, IsStarted, CanSettle, IsInOrder, IsPatient, IsPatientAt, is_due, is_present_in, CanHear, Hears}
 use Rattle.mj_umpire.specs.declared.chair.Chair.{Chair as Player}
 use Rattle.mj_umpire.proofs.Seats.{chairs_of-get, chairs_of-length, seated-append, seated-set, presence-is, name-at-desk, changed-is, desk_after-is, held_after, held_after-present}
 use Rattle.mj_umpire.proofs.Steps.{makes-step, said-own, gone-own, back-own, sat-own, first_player, next-waits, next-starts, next-plays, by_closing, no-window}

@@ -14,7 +14,8 @@ use Rattle.mj_wall.specs.declared.setting.Rules.{Rules}
 use Rattle.mj_wall.specs.declared.setting.Setting.{Setting}
 use Rattle.mj_window.specs.Slots.{closes}
 use Rattle.mj_rules.specs.Outcome.{outcome}
-use Rattle.mj_history.specs.After.{After, Chair, Verdict, Taken, Late, Refused, Closing, verdict_on, progress_after, author_after, slots_after, lines_for, after_said, after_gone, after_back, new_chair, own_part, name_at, names_of, answers_in, is_present, is_expiry, next_deed, with_deed, step}
+use Rattle.mj_history.specs.After.{After, Chair, Verdict, Taken, Late, Refused, Closing, verdict_on, progress_after, author_after, slots_after, lines_for, after_said}
+use Rattle.mj_history.specs.After.{after_gone, after_back, new_chair, own_part, name_at, names_of, answers_in, is_present, is_expiry, next_deed, with_deed, step}
 use Rattle.mj_history.specs.Laws.{CanGoOn}
 use Rattle.mj_history.specs.Sitting.{held_of}
 use Rattle.mj_seating.specs.Sitting.{Occupant}

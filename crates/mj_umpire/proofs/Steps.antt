@@ -16,7 +16,8 @@ use Rattle.mj_wall.specs.declared.setting.Rules.{Rules}
 use Rattle.mj_wall.specs.declared.setting.Setting.{Setting}
 use Rattle.mj_window.specs.Slots.{closes}
 use Rattle.mj_rules.specs.Outcome.{outcome, goes_on}
-use Rattle.mj_history.specs.After.{After, Chair, Verdict, Taken, Late, Refused, Closing, verdict_on, progress_after, author_after, slots_after, lines_for, after_said, after_gone, after_back, due_on_return, new_chair, own_part, names_of, answers_in, is_present, is_expiry, next_deed, with_deed}
+use Rattle.mj_history.specs.After.{After, Chair, Verdict, Taken, Late, Refused, Closing, verdict_on, progress_after, author_after, slots_after, lines_for, after_said}
+use Rattle.mj_history.specs.After.{after_gone, after_back, due_on_return, new_chair, own_part, names_of, answers_in, is_present, is_expiry, next_deed, with_deed}
 use Rattle.mj_umpire.specs.Calls.{open_window}
 use Rattle.mj_umpire.specs.Inner.Untold.{untold_chair, untold}
 use Rattle.mj_umpire.specs.Inner.States.{Position, chair_of, chairs_of, progress_of, player_of, now_of, Steps, changed, desk_after, with_next}

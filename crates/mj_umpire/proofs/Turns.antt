@@ -16,7 +16,8 @@ use Rattle.mj_window.specs.Slots.{closes}
 use Rattle.mj_rules.specs.Broken.{broken_rule}
 use Rattle.mj_history.specs.After.{Verdict, verdict, progress_after, author_after, slots_after, due_on_return}
 use Rattle.mj_umpire.specs.Calls.{open_window}
-use Rattle.mj_umpire.specs.Inner.States.{Position, presence_at, AreSeated, progress_of, player_of, now_of, is_due, Steps, Advances, changed, desk_after, Settles, CanSettle, CanTakeSeat, CanTakeBack, CanHear, CanLeave, CanExpire, Hears}
+use Rattle.mj_umpire.specs.Inner.States.{Position, presence_at, AreSeated, progress_of, player_of, now_of, is_due, Steps, Advances, changed}
+use Rattle.mj_umpire.specs.Inner.States.{desk_after, Settles, CanSettle, CanTakeSeat, CanTakeBack, CanHear, CanLeave, CanExpire, Hears}
 use Rattle.mj_umpire.specs.declared.chair.Chair.{Chair as Player}
 use Rattle.mj_umpire.proofs.Seats.{HasParts, parts-at}
 use Rattle.mj_umpire.proofs.Steps.{first_player}

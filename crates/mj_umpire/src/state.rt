@@ -1,4 +1,5 @@
-ghost use Rattle.std.specs.Prelude.{◌≡◌, ◌≤◌, ◌<◌, ◌==◌, ◌-◌, ◌++◌, ◌∷◌, ◌&&◌, [], ℕ, length, slice_get, slice_set, true, is_some, Some, None, OnOk, OnErr, IfOk, option_copied, option_map, if◌then◌else◌};
+ghost use Rattle.std.specs.Prelude.{◌≡◌, ◌≤◌, ◌<◌, ◌==◌, ◌-◌, ◌++◌, ◌∷◌, ◌&&◌, [], ℕ, length, slice_get, slice_set, true};
+ghost use Rattle.std.specs.Prelude.{is_some, Some, None, OnOk, OnErr, IfOk, option_copied, option_map, if◌then◌else◌};
 ghost use Rattle.mj_ports.specs.declared.entry.Entry.TheVariants.{Sat, Back, Gone, Expired};
 ghost use Rattle.mj_seating.specs.Sitting.{is_present_at};
 ghost use Rattle.mj_wall.specs.declared.setting.Setting.{Setting};
@@ -10,7 +11,8 @@ ghost use Rattle.mj_deeds.specs.Facts.{newest};
 ghost use Rattle.mj_history.specs.After.{due_on_return, slots_after};
 ghost use Rattle.mj_history.specs.Legal.{is_over};
 ghost use Rattle.mj_umpire.specs.Calls.{open_window};
-ghost use Rattle.mj_umpire.specs.Inner.States.{Steps, Hears, Advances, Settles, CanTakeSeat, CanTakeBack, CanHear, CanLeave, CanExpire, CanSettle, HasWalls, MayAdd, changed, now_of, nobody, desk_after, player_in, placed_in, presence_at, desk_name, desk_names};
+ghost use Rattle.mj_umpire.specs.Inner.States.{Steps, Hears, Advances, Settles, CanTakeSeat, CanTakeBack, CanHear, CanLeave, CanExpire, CanSettle, HasWalls};
+ghost use Rattle.mj_umpire.specs.Inner.States.{MayAdd, changed, now_of, nobody, desk_after, player_in, placed_in, presence_at, desk_name, desk_names};
 ghost use Rattle.mj_umpire.specs.Inner.Verdicts.{verdict_given};
 
 use crate::chair::Chair;

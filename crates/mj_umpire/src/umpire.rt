@@ -10,7 +10,8 @@ ghost use Rattle.mj_history.specs.Legal.{IsLegal, can_say, is_over};
 ghost use Rattle.mj_history.specs.Shown.{sit_answer, sits_of, expires_of};
 ghost use Rattle.mj_history.specs.Sitting.{placing};
 ghost use Rattle.mj_seating.specs.declared.desk.Placed.TheVariants.{Sat, Back};
-ghost use Rattle.mj_umpire.specs.Calls.{IsSitAnswer, Foresees, IsHeard, IsLeft, IsExpiry, after_of, is_here, may_expire, author_of_seat, due_of, open_window, may_say_at, pending_at, line_of, record_of};
+ghost use Rattle.mj_umpire.specs.Calls.{IsSitAnswer, Foresees, IsHeard, IsLeft, IsExpiry, after_of, is_here, may_expire};
+ghost use Rattle.mj_umpire.specs.Calls.{author_of_seat, due_of, open_window, may_say_at, pending_at, line_of, record_of};
 ghost use Rattle.mj_umpire.specs.Inner.Verdicts.{heard_by};
 
 use crate::answers::{Expiry, Heard, Left, SitAnswer};

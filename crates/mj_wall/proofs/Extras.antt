@@ -1,5 +1,6 @@
 -- Tiles of which none is one too many: one tile more, and how many there can be.
-use Rattle.std.proofs.Common.{◌≡◌, ℕ, ◌+◌, ◌-◌, ◌<◌, ◌≤◌, ◌^◌, Bool, true, false, Option, Some, None, List, [], ◌∷◌, ◌++◌, length, take, drop, get_or, set, map, length-set, get_or-set_same, get_or-set_other, arith, ◌⊎◌, inl, inr, refl, sym, ap, ◌∙◌, cond, leb, eqb}
+use Rattle.std.proofs.Common.{◌≡◌, ℕ, ◌+◌, ◌-◌, ◌<◌, ◌≤◌, ◌^◌, Bool, true, false, Option, Some, None, List, [], ◌∷◌, ◌++◌, length, take, drop, get_or}
+use Rattle.std.proofs.Common.{set, map, length-set, get_or-set_same, get_or-set_other, arith, ◌⊎◌, inl, inr, refl, sym, ap, ◌∙◌, cond, leb, eqb}
 use Rattle.std.specs.Prelude.{All}
 use Rattle.std.specs.List.{range_with_len}
 use Rattle.std.proofs.lemmas.Bool.{cases_eq, cases_lt, le-ltb, eq-eqb, ne_eqb, leb-false, lt-leb, le-leb}

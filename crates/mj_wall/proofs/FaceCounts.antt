@@ -1,5 +1,6 @@
 -- How many tiles there are of each face, one tile after another.
-use Rattle.std.proofs.Common.{◌≡◌, ℕ, ◌+◌, ◌<◌, ◌≤◌, List, [], ◌∷◌, ◌++◌, length, take, get_or, set, replicate, length-set, get_or-set_same, get_or-set_other, arith, ◌⊎◌, inl, inr, refl, sym, ◌∙◌, eqb}
+use Rattle.std.proofs.Common.{◌≡◌, ℕ, ◌+◌, ◌<◌, ◌≤◌, List, [], ◌∷◌, ◌++◌, length, take, get_or, set, replicate, length-set}
+use Rattle.std.proofs.Common.{get_or-set_same, get_or-set_other, arith, ◌⊎◌, inl, inr, refl, sym, ◌∙◌, eqb}
 use Rattle.std.proofs.lemmas.Bool.{cases_eq, eq-eqb, ne_eqb}
 use Rattle.std.proofs.lemmas.Grind.{same_number_lists}
 use Rattle.std.proofs.lemmas.List.{take_more, length-take-le}

@@ -1,5 +1,6 @@
 -- What a wall is made of, and that tiles are a wall exactly where no place of them is wrong.
-use Rattle.std.proofs.Common.{◌≡◌, ◌≢◌, ℕ, ◌+◌, ◌<◌, ◌≤◌, Bool, true, false, Option, Some, None, List, [], ◌∷◌, ◌++◌, length, get_or, map, arith, inl, inr, refl, sym, ap, ◌∙◌, subst, cond, eqb, leb, ltb, append_assoc}
+use Rattle.std.proofs.Common.{◌≡◌, ◌≢◌, ℕ, ◌+◌, ◌<◌, ◌≤◌, Bool, true, false, Option, Some, None, List, [], ◌∷◌, ◌++◌, length}
+use Rattle.std.proofs.Common.{get_or, map, arith, inl, inr, refl, sym, ap, ◌∙◌, subst, cond, eqb, leb, ltb, append_assoc}
 use Rattle.std.specs.Prelude.{All, is_none}
 use Rattle.std.specs.Str.{bytes_eq}
 use Rattle.std.proofs.lemmas.Bool.Decides.{same_from_decides}

@@ -1,5 +1,6 @@
 -- No kind stands more than four times in a wall, and so no more than four times among tiles of different places of it.
-use Rattle.std.proofs.Common.{◌≡◌, ℕ, zero, suc, ◌+◌, ◌-◌, ◌*◌, ◌<◌, ◌≤◌, ◌==◌, Bool, true, false, List, [], ◌∷◌, length, get_or, take, arith, inl, inr, refl, sym, ap, ◌∙◌, subst, cond, eqb, leb, add-one}
+use Rattle.std.proofs.Common.{◌≡◌, ℕ, zero, suc, ◌+◌, ◌-◌, ◌*◌, ◌<◌, ◌≤◌, ◌==◌, Bool, true, false, List, [], ◌∷◌, length}
+use Rattle.std.proofs.Common.{get_or, take, arith, inl, inr, refl, sym, ap, ◌∙◌, subst, cond, eqb, leb, add-one}
 use Rattle.std.specs.Prelude.{All, sum_by, if◌then◌else◌}
 use Rattle.std.proofs.lemmas.Bool.{cases_eq, eqb-true, leb-true, agree_below, agree_below_at}
 use Rattle.std.proofs.lemmas.List.Sums.{sum_by-cons, sum_by_more}

@@ -3,7 +3,8 @@ use Rattle.std.proofs.Common.{◌≡◌, ℕ, List, [], ◌∷◌, true, false, 
 use Rattle.std.specs.Prelude.{Option, Some, None, is_some, option_map, IsSomeAnd}
 use Rattle.std.proofs.lemmas.Bool.{and_parts}
 use Rattle.clap.specs.Lexer.{usize_max}
-use Rattle.clap.specs.Words.{AddsArg, App, HasKind, HasMatchesOf, Kinds, Rule, all_of, app_of, fault_of, first_of, first_value, found_of, is_simple, is_simple_and_free, kind_of, matched_of, new_app, raw_values, rule_of, with_rule}
+use Rattle.clap.specs.Words.{AddsArg, App, HasKind, HasMatchesOf, Kinds, Rule, all_of, app_of, fault_of, first_of, first_value, found_of}
+use Rattle.clap.specs.Words.{is_simple, is_simple_and_free, kind_of, matched_of, new_app, raw_values, rule_of, with_rule}
 use Rattle.clap.specs.Simple.{built}
 use Rattle.clap.specs.Faults.{is_free_app}
 use Rattle.clap.specs.declared.builder.arg.Arg.{Arg}

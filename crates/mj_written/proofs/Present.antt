@@ -10,7 +10,8 @@ use Rattle.mj_ports.specs.Entries.{author_of}
 use Rattle.mj_deeds.specs.declared.answer.Answer.{Answer}
 use Rattle.mj_wall.specs.declared.setting.Rules.{Rules}
 use Rattle.mj_wall.specs.declared.setting.Setting.{Setting}
-use Rattle.mj_history.specs.After.{After, Chair, Verdict, Taken, Late, Refused, Closing, verdict_on, author_after, after_said, after_gone, after_back, new_chair, own_part, step, after_from, after, before_all}
+use Rattle.mj_history.specs.After.{After, Chair, Verdict, Taken, Late, Refused, Closing, verdict_on, author_after, after_said}
+use Rattle.mj_history.specs.After.{after_gone, after_back, new_chair, own_part, step, after_from, after, before_all}
 use Rattle.mj_history.specs.Shown.{shown_of}
 use Rattle.mj_history.proofs.Entered.{step-chairs, gone-chairs}
 use Rattle.mj_history.proofs.Entries.{after-append}

@@ -27,7 +27,8 @@ use Rattle.mj_deeds.specs.declared.answer.Answer.{Answer}
 use Rattle.mj_deeds.specs.declared.answer.Answer.TheVariants.{Pass, Discard, Pon, Reach, Win, Unread}
 use Rattle.mj_forms.specs.AnswerForms.{value_of, pai_of, seat_as, seat_in, text_in, pai_in, pass_in, discard_in, reach_in, win_in, own_in, call_in, pais_in_order, answer_in, answer_of}
 use Rattle.mjai_answers.specs.Fronts.{BeginsWithSeat}
-use Rattle.mjai_answers.specs.Inner.Spellings.{pass_front, pass_text, discard_front, tile_front, mark_text, discard_text, reach_front, reach_text, win_front, target_front, win_text, pon_front, own_front, pon_text}
+use Rattle.mjai_answers.specs.Inner.Spellings.{pass_front, pass_text, discard_front, tile_front, mark_text, discard_text, reach_front}
+use Rattle.mjai_answers.specs.Inner.Spellings.{reach_text, win_front, target_front, win_text, pon_front, own_front, pon_text}
 use Rattle.mjai_answers.proofs.Texts.{value_of_text}
 
 -- plain texts

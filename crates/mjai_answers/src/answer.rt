@@ -1,6 +1,8 @@
 ghost use Rattle.std.specs.Prelude.{◌≡◌, IfOk};
 ghost use Rattle.serde_json.specs.View.{view};
-ghost use Rattle.mj_forms.specs.AnswerForms.{answer_of, answer_in as answer_read, answer_by as answer_of_type, pass_in as pass_read, discard_in as discard_read, call_in as call_read, closed_kan_in as closed_kan_read, added_kan_in as added_kan_read, with_three_tiles, with_four_tiles, pai_in as pai_read, pai_of as pai_of_text};
+ghost use Rattle.mj_forms.specs.AnswerForms.{answer_of, answer_in as answer_read, answer_by as answer_of_type, pass_in as pass_read, discard_in as discard_read};
+ghost use Rattle.mj_forms.specs.AnswerForms.{call_in as call_read, closed_kan_in as closed_kan_read, added_kan_in as added_kan_read};
+ghost use Rattle.mj_forms.specs.AnswerForms.{with_three_tiles, with_four_tiles, pai_in as pai_read, pai_of as pai_of_text};
 ghost use Rattle.mj_deeds.specs.declared.answer.Answer.TheVariants.{ClosedKan, AddedKan};
 ghost use Rattle.mjai_answers.specs.Inner.Calls.{answer_of_call};
 

@@ -2,7 +2,8 @@ ghost use Rattle.std.specs.Prelude.{◌≡◌, ◌+◌, ◌<◌, ◌∷◌, ◌+
 ghost use Rattle.mj_bytes.specs.Adds.{Adds};
 ghost use Rattle.mj_view.specs.Seen.{sees};
 ghost use Rattle.mj_forms.specs.Choices.{line_listing};
-ghost use Rattle.mj_forms.specs.Lines.{line as line_for, bracketed, quoted_tile, seat_in_line as seat_written, start_game_line, draw_line, discard_line, call_line, call_object, closed_kan_line, added_kan_line, dora_line, hands_seen, tile_seen, truth};
+ghost use Rattle.mj_forms.specs.Lines.{line as line_for, bracketed, quoted_tile, seat_in_line as seat_written, start_game_line, draw_line, discard_line};
+ghost use Rattle.mj_forms.specs.Lines.{call_line, call_object, closed_kan_line, added_kan_line, dora_line, hands_seen, tile_seen, truth};
 
 use crate::choices::list_answers;
 use crate::ending::{push_drawn_hand, push_end_game};

@@ -1,5 +1,6 @@
 -- Each step on the table keeps its rule.
-use Rattle.std.proofs.Common.{◌≡◌, ℕ, ◌+◌, ◌%◌, ◌^◌, ◌<◌, ◌≤◌, ◌≢◌, Bool, true, false, List, [], ◌∷◌, ◌++◌, length, set, slice_index, slice_set, nat_lt, ◌==◌, MatchBool, All, Option, Some, refl, ap, sym, ◌∙◌, subst, subst₂, arith, length-append}
+use Rattle.std.proofs.Common.{◌≡◌, ℕ, ◌+◌, ◌%◌, ◌^◌, ◌<◌, ◌≤◌, ◌≢◌, Bool, true, false, List, [], ◌∷◌, ◌++◌, length, set, slice_index, slice_set}
+use Rattle.std.proofs.Common.{nat_lt, ◌==◌, MatchBool, All, Option, Some, refl, ap, sym, ◌∙◌, subst, subst₂, arith, length-append}
 use Rattle.std.proofs.lemmas.Bool.Decides.{nat_tests}
 use Rattle.std.proofs.Math.Nat.{mod-add-mod}
 use mathlib.Core.Option.{some, some-injective, some-ne-none}
@@ -19,7 +20,8 @@ use Rattle.turn_lock.specs.Inner.Rule.{total, IsFree, At, Knows, Holds}
 use Rattle.turn_lock.specs.Inner.Plays.{Drew, Granted, Looked, Told, Served}
 use Rattle.turn_lock.proofs.Sums.{total_set, total_snoc, total_le, one_below, two_below, total_alone, each_set, each_snoc, one_there, prefix_self}
 use Rattle.turn_lock.proofs.Views.{apart_set, apart_snoc, frees, frees_snoc, at_later, not_next, at_served, not_serving, none_serves, out_own}
-use Rattle.turn_lock.proofs.Known.{own_times, below_one, below_count, below_follows, knows_follows, knows_append, knows_others, knows_first, knows_fresh, times_append, times_cut, length_cut, no_times, length_fresh, times_fresh}
+use Rattle.turn_lock.proofs.Known.{own_times, below_one, below_count, below_follows, knows_follows, knows_append, knows_others, knows_first}
+use Rattle.turn_lock.proofs.Known.{knows_fresh, times_append, times_cut, length_cut, no_times, length_fresh, times_fresh}
 
 module _ {T S N : Type 0} (setting : T → S) (notes : T → List N) (author : N → ℕ) (fixed : S) (count : ℕ) where
   abbrev H : State (Option T) (View S N) → Type 0

@@ -3,7 +3,8 @@ use Rattle.mj_tiles.specs.Terminals.{is_terminal_or_honour}
 use Rattle.mj_readings.proofs.Orphans.{orphans_off, orphans_end}
 use mir.Val.{bool_byte}
 use Rattle.mj_readings.proofs.complete.double_of.Goals as goal
-use Rattle.mj_readings.proofs.complete.double_of.Goals.{then-not-orphan-via-then-not-orphan, then-not-orphan-via-else-not-orphan+then-number-ne2, then-not-orphan-via-else-not-orphan+else-number-ne2+then-is_some}
+use Rattle.mj_readings.proofs.complete.double_of.Goals.{then-not-orphan-via-then-not-orphan, then-not-orphan-via-else-not-orphan+then-number-ne2}
+use Rattle.mj_readings.proofs.complete.double_of.Goals.{then-not-orphan-via-else-not-orphan+else-number-ne2+then-is_some}
 
 byte_is : (b : Bool) → bool_byte b ≡ cond b 1 0
 byte_is true = refl

@@ -7,7 +7,8 @@ use Rattle.mj_workers.specs.Columns.{items_of}
 use Rattle.mj_workers.specs.Staffs.{AreNewPasses, sessions_of}
 use Rattle.mj_ticker.proofs.Besides.{one_less, popped, map_snoc}
 use Rattle.mj_workers.proofs.Rows.{some_new}
-use Rattle.mj_workers.proofs.Staffing.{some_were, fewer_left, few_left, falls_by, none_popped, rows_room, taken_last, done_none, done_more, done_count, last_ready, room_less, room_for, room_then, room_same}
+use Rattle.mj_workers.proofs.Staffing.{some_were, fewer_left, few_left, falls_by, none_popped, rows_room, taken_last, done_none}
+use Rattle.mj_workers.proofs.Staffing.{done_more, done_count, last_ready, room_less, room_for, room_then, room_same}
 use Rattle.mj_workers.proofs.Told.{eight_and, each_and, same_and}
 use Rattle.mj_workers.proofs.worker.+handling.Goals as goal
 
