@@ -1,2 +1,3 @@
 pub use Rattle.mj_umpire.specs.Calls
+pub mod Told
 pub mod Inner

@@ -30,7 +30,7 @@ pub struct SeatGame {
 }
 
 impl Model for SeatGame {
-    ghost use Rattle.mj_umpire.specs.Calls.{ToldGame};
+    ghost use Rattle.mj_core.specs.Told.{ToldGame};
     ghost use Rattle.mj_core.specs.Inner.Near.{AreNear};
 
     ghost Value = { ToldGame };

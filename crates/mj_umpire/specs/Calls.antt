@@ -26,11 +26,6 @@ pub use Rattle.mj_history.specs.Shown.{open_window}
 abbrev pub after_of : Game → After
 after_of game = after game.setting game.entries
 
--- A game, and the seat that is told of it, 0 to 3; any other number is nobody's.
-pub record ToldGame : Type 0 where
-  pub seat : ℕ
-  pub game : Game
-
 -- One entry is added, under the same setting.
 pub record Enters (old new : Game) (entry : Entry Answer) : Type 0 where
   pub setting : new.setting ≡ old.setting

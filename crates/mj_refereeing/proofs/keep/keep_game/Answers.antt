@@ -1,6 +1,6 @@
 use Rattle.std.proofs.Common.{refl, length, ℕ, ap, sym, ◌∙◌}
 use Rattle.mj_journal.specs.declared.not_opened.NotOpened.TheVariants as not_opened
-use Rattle.mj_core.specs.Calls.{ToldGame}
+use Rattle.mj_core.specs.Told.{ToldGame}
 use Rattle.mj_refereeing.specs.Bases.{base_meant}
 use Rattle.mj_refereeing.proofs.InputLaws.{failed_open, wanting_open, other_open, bad_open, keeps-opened, other-as, bad-as, some-wall}
 use Rattle.mj_refereeing.proofs.SafeLaws.{opening-syncs}
