@@ -1,85 +1,20 @@
 -- The walls of a seed that are shuffled so far give what all of them give.
 use Rattle.std.proofs.Common.{◌≡◌, ℕ, zero, suc, ◌+◌, ◌-◌, ◌<◌, ◌≤◌, ◌%◌, ◌^◌, min, Bool, true, IsTrue, List, [], ◌∷◌, ◌++◌, length, inl, inr, refl, sym, ap, ◌∙◌, subst, arith, append_assoc}
-use Rattle.std.specs.List.{list_all, slice_index_or, swap}
-use Rattle.std.proofs.Math.Nat.{mod-eq_of_lt, mod-lt}
+use Rattle.std.specs.List.{list_all, slice_index_or}
+use Rattle.std.proofs.Math.Nat.{mod-eq_of_lt}
 use Rattle.std.proofs.lemmas.Bool.{and_parts, cases_eq}
 use Rattle.std.proofs.lemmas.List.{append-nil, length-append, get_or_append_left, length_push}
-use Rattle.std.proofs.lemmas.List.Edits.{length-swap}
 use Rattle.std.proofs.lemmas.List.Folds.{list_all-append}
-use Rattle.std.proofs.lemmas.List.Sorted.{IsPermutation-swap}
 use Rattle.mj_deeds.specs.declared.deed.Deed.{Deed}
 use Rattle.mj_deeds.specs.Hand.{hand_number}
 use Rattle.mj_wall.specs.declared.setting.Rules.{Rules}
 use Rattle.mj_wall.specs.Places.{is_wall}
-use Rattle.mj_wall.specs.Shuffle.{sorted_wall, swapped_from, drawn_number, shuffled_wall, shuffled_from}
-use Rattle.mj_wall.proofs.Shuffles.{HasWall, sorted_has, swap_has, has_is_wall, AreFrom, from_none, from_more, from_all}
+use Rattle.mj_wall.specs.Shuffle.{shuffled_wall, shuffled_from}
+use Rattle.mj_wall.proofs.SeedWalls.{next_from, many_from}
 use Rattle.mj_rules.specs.Outcome.{AreSame, wall_of}
 use Rattle.mj_rules.specs.Played.{IsPlayed}
 use Rattle.mj_rules.proofs.SameWalls.{played_same}
 use Rattle.mj_telling.specs.Inner.Firsts.{AreFirst}
-
--- each wall of a seed is one
-
-swapped_has : (red : Bool) (number : ℕ → ℕ) (place : ℕ) (tiles : List ℕ) → place < 136 → HasWall red tiles → HasWall red (swapped_from number place tiles)
-swapped_has red number zero tiles low has = has
-swapped_has red number (suc i) tiles low has =
-    swapped_has red number i (swap tiles (suc i) to) (less i low)
-    (swap_has red tiles (swap tiles (suc i) to) has
-    (IsPermutation-swap tiles (swap tiles (suc i) to) (suc i) to (within (suc i) (length tiles) low has.long)
-    (to_within to (suc i) (length tiles) (mod-lt (number (suc i)) (some i)) low has.long) refl)
-    (length-swap tiles (suc i) to))
-  where
-    to : ℕ
-    to = number (suc i) % (suc i + 1)
-
-    less : (a : ℕ) → suc a < 136 → a < 136
-    less a h = omega (arith, h)
-
-    some : (a : ℕ) → 0 < suc a + 1
-    some a = omega arith
-
-    within : (a b : ℕ) → a < 136 → b ≡ 136 → a < b
-    within a b h e = omega (arith, h, e)
-
-    to_within : (a b c : ℕ) → a < b + 1 → b < 136 → c ≡ 136 → a < c
-    to_within a b c h k e = omega (arith, h, k, e)
-
-wall_is : (seed : List ℕ) (n : ℕ) (red : Bool) → is_wall red (shuffled_wall seed n red) ≡ true
-unfolding shuffled_wall
-wall_is seed n red = has_is_wall red _ (swapped_has red (λ i. drawn_number seed n (135 - i)) 135 (sorted_wall red) (omega arith) (sorted_has red (sorted_wall red) refl))
-
--- so many walls
-
-one_more : (seed : List ℕ) (red : Bool) (first n : ℕ) → AreFrom seed red first (first + n) (shuffled_from seed red first n) →
-    AreFrom seed red first (first + suc n) (shuffled_from seed red first n ++ shuffled_wall seed (first + n) red ∷ [])
-one_more seed red first n before =
-    from_more seed red first (first + n) (first + suc n) (shuffled_wall seed (first + n) red) (shuffled_from seed red first n) _ (next first n) refl (wall_is seed (first + n) red) refl before
-  where
-    next : (a b : ℕ) → a + suc b ≡ a + b + 1
-    next a b = omega arith
-
-pub all_from : (seed : List ℕ) (red : Bool) (first n : ℕ) → AreFrom seed red first (first + n) (shuffled_from seed red first n)
-all_from seed red first zero =
-    subst (λ (n : ℕ). AreFrom seed red first n (shuffled_from seed red first zero)) (none first)
-    (subst (AreFrom seed red first first) (from_all seed red first zero first [] (none first) (from_none seed red first [] refl)) (from_none seed red first [] refl))
-  where
-    none : (a : ℕ) → a ≡ a + zero
-    none a = omega arith
-all_from seed red first (suc n) =
-    let more = one_more seed red first n (all_from seed red first n) in
-    subst (AreFrom seed red first (first + suc n)) (from_all seed red first (suc n) (first + suc n) _ refl more) more
-
-next_from : (seed : List ℕ) (red : Bool) (first n : ℕ) → shuffled_from seed red first (suc n) ≡ shuffled_from seed red first n ++ shuffled_wall seed (first + n) red ∷ []
-next_from seed red first n = sym (from_all seed red first (suc n) (first + suc n) _ refl (one_more seed red first n (all_from seed red first n)))
-
-pub many_from : (seed : List ℕ) (red : Bool) (first n : ℕ) → length (shuffled_from seed red first n) ≡ n
-many_from seed red first n = alone first _ n (all_from seed red first n).many
-  where
-    alone : (a b c : ℕ) → a + b ≡ a + c → b ≡ c
-    alone a b c e = omega (arith, e)
-
-pub whole_from : (seed : List ℕ) (red : Bool) (first n : ℕ) → list_all (is_wall red) (shuffled_from seed red first n) ≡ true
-whole_from seed red first n = (all_from seed red first n).whole
 
 -- One wall more is shuffled.
 pub none_first : (seed : List ℕ) (red : Bool) (first number : ℕ) (there : List (List ℕ)) → first + number < 2 ^ 64 → there ≡ [] → AreFirst seed red first number there

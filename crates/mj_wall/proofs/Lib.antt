@@ -4,3 +4,4 @@ pub mod Extras
 pub mod FaceCounts
 pub mod WallKinds
 pub mod Shuffles
+pub mod SeedWalls

@@ -1,4 +1,5 @@
-use Rattle.mj_telling.proofs.Supplies.{none_first, many_from, whole_from}
+use Rattle.mj_wall.proofs.SeedWalls.{many_from, whole_from}
+use Rattle.mj_telling.proofs.Supplies.{none_first}
 use Rattle.mj_telling.proofs.shuffled.Shuffled.new.Goals as goal
 
 pub invariant_of-result : goal.invariant_of-result
