@@ -5,7 +5,7 @@ use Rattle.std.proofs.lemmas.List.{append_assoc, append-nil}
 use Rattle.mj_tiles.specs.Counts.{all_kinds}
 use Rattle.mj_bytes.specs.Adds.{Adds}
 use Rattle.mj_shanten.specs.Shanten.{sorted_kinds}
-use Rattle.mj_hand.specs.Text.{number_line, target_line, waits_line, hand_text}
+use Rattle.mj_hand.specs.Text.{shanten_line, target_line, waits_line, hand_text}
 
 -- the kinds from one on, each as often as it stands
 abbrev pub sorted_from : List ℕ → ℕ → ℕ → List ℕ
@@ -54,9 +54,9 @@ passing_end test items whole number last before =
     sym (append-nil items) ∙ ap (λ n. items ++ filter test (range_with_len number n)) (sym e) ∙ before
 
 -- the three lines, one after the other
-pub lines_written : (a b c d target waits : List ℕ) (number : ℕ) → a ≡ [] → Adds a b (number_line number) → Adds b c (target_line target)
+pub lines_written : (a b c d target waits : List ℕ) (number : ℕ) → a ≡ [] → Adds a b (shanten_line number) → Adds b c (target_line target)
     → Adds c d (waits_line waits) → d ≡ hand_text number target waits
 lines_written a b c d target waits number none first second third =
     third.is ∙ ap (λ xs. xs ++ waits_line waits) second.is
-    ∙ ap (λ xs. (xs ++ target_line target) ++ waits_line waits) (first.is ∙ ap (λ xs. xs ++ number_line number) none)
-    ∙ append_assoc (number_line number) (target_line target) (waits_line waits)
+    ∙ ap (λ xs. (xs ++ target_line target) ++ waits_line waits) (first.is ∙ ap (λ xs. xs ++ shanten_line number) none)
+    ∙ append_assoc (shanten_line number) (target_line target) (waits_line waits)

@@ -14,8 +14,8 @@ abbrev pub kinds_text : List ℕ → List ℕ
 kinds_text kinds = flat_map (λ kind. 32 ∷ text_of kind) kinds
 
 -- `shanten` and the number.
-abbrev pub number_line : ℕ → List ℕ
-number_line number = codes "shanten " ++ (number_text number ++ codes "\n")
+abbrev pub shanten_line : ℕ → List ℕ
+shanten_line number = codes "shanten " ++ (number_text number ++ codes "\n")
 
 -- `target` and the concealed tiles of the target, in tile order.
 abbrev pub target_line : List ℕ → List ℕ
@@ -32,7 +32,7 @@ waits_line kinds = codes "waits" ++ (kinds_or_dash kinds ++ codes "\n")
 
 -- The three lines of a hand: its shanten, the concealed tiles of its target, and its waits.
 abbrev pub hand_text : ℕ → List ℕ → List ℕ → List ℕ
-hand_text number target waits = number_line number ++ (target_line target ++ waits_line waits)
+hand_text number target waits = shanten_line number ++ (target_line target ++ waits_line waits)
 
 -- A text is that of a hand: its shanten, its target and all its waits, in tile order.
 pub record IsTextOf (hand : Hand) (text : List ℕ) : Type 0 where

@@ -9,7 +9,7 @@ ghost use Rattle.mj_bytes.specs.Adds.{Adds};
 ghost use Rattle.mj_shanten.specs.Room.{IsHand};
 ghost use Rattle.mj_shanten.specs.Shanten.{sorted_kinds};
 ghost use Rattle.mj_hand.specs.Hands.{hand_of};
-ghost use Rattle.mj_hand.specs.Text.{IsTextOf, IsHandText, kinds_text, number_line, target_line, kinds_or_dash, waits_line};
+ghost use Rattle.mj_hand.specs.Text.{IsTextOf, IsHandText, kinds_text, shanten_line, target_line, kinds_or_dash, waits_line};
 
 use crate::hand::{Hand, read_hand};
 use mj_bytes::{push_all, push_number};
@@ -51,7 +51,7 @@ fn text_of_hand(alloc: Global, hand: &Hand) -> Result<Vec<u8>, AllocError>
 }
 
 fn push_shanten(text: &mut Vec<u8>, number: u8) -> Result<(), AllocError>
-    ensures { OnOk result (Adds text.old.items text.new.items (number_line number)) }
+    ensures { OnOk result (Adds text.old.items text.new.items (shanten_line number)) }
 {
     push_all(text, b"shanten ")?;
     push_number(text, u64::from(number))?;
