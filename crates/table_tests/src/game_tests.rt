@@ -3,8 +3,6 @@
 ghost use Rattle.std.specs.Prelude.{◌≡◌, []};
 
 use crate::games::shuffled_game;
-use crate::guests::{Crowd, Guest, host_of};
-use crate::lines::{A, B, C, D, LINE_END, PASS, Part};
 use crate::meeting::{AskingClock, Meeting, MeetingHost, Sign};
 use mj_links::{Clock, Host, MemHost};
 use mj_ports::Seated;
@@ -13,6 +11,7 @@ use std::alloc::Global;
 use std::sync::Wait;
 use std::thread::Threads;
 use std::time;
+use test_guests::{A, B, C, Crowd, D, Guest, LINE_END, PASS, Part, host_of};
 
 // What is left of a game that workers played.
 #[derive(Clone, Copy)]

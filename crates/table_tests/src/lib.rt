@@ -7,10 +7,6 @@ mod game_tests;
 #[cfg(test)]
 mod games;
 #[cfg(test)]
-mod guests;
-#[cfg(test)]
-mod lines;
-#[cfg(test)]
 mod meeting;
 #[cfg(test)]
 mod patient;

@@ -3,7 +3,6 @@
 ghost use Rattle.std.specs.Prelude.{◌≡◌, None};
 ghost use Rattle.mj_links.specs.Links.{ReadingStays, WritingStays};
 
-use crate::lines::{HELLO, NO_ROOM};
 use mj_links::{
     Came, Clock, FaultCount, Given, Got, Host, Link, MemHost, MemLink, Numbered, Opened, Put, Sink,
     Source,
@@ -11,6 +10,10 @@ use mj_links::{
 use std::sync::atomic::{AtomicU32, Ordering};
 use std::time::Duration;
 use std::{thread, time};
+use test_guests::HELLO;
+
+// What is told to a join that names a room of which there is none.
+const NO_ROOM: &str = "{\"type\":\"error\",\"sit\":8,\"message\":\"NoRoom\"}\n";
 
 /// How many turns of a millisecond each waits at most.
 const TURNS: u32 = 10_000;

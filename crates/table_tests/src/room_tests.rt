@@ -3,8 +3,6 @@
 ghost use Rattle.std.specs.Prelude.{◌≡◌, [], All, IfOk, length};
 
 use crate::games::shuffled_game;
-use crate::guests::{Crowd, Guest, host_of};
-use crate::lines::Part;
 use crate::running::{Met, TABLES, Wanted, comes_to, meets};
 use mj_core::Core;
 use mj_links::{Host, MemClock};
@@ -13,6 +11,7 @@ use mj_tables::run_tables;
 use std::alloc::{AllocError, Global};
 use std::sync::Wait;
 use std::thread::Threads;
+use test_guests::{Crowd, Guest, Part, host_of};
 
 // How long the line of a join is here, with its newline.
 const JOIN: usize = 42;

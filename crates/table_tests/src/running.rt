@@ -1,7 +1,5 @@
 //! Runs of the commands `serve` and `tables` over hosts in memory, and what they come to.
 
-use crate::guests::{Crowd, host_of};
-use crate::lines::{HELLO, MAY_PASS};
 use crate::meeting::{Meeting, MeetingHost, Sign};
 use crate::waiting::WaitingHost;
 use mj_front::{Status, exit_code, is_for_waiting, run, run_alone, status_text};
@@ -11,6 +9,10 @@ use std::alloc::{AllocError, Global};
 use std::sync::Wait;
 use std::thread::Threads;
 use std::time;
+use test_guests::{Crowd, HELLO, host_of};
+
+// How the line of a deed ends where a seat may only pass.
+const MAY_PASS: &str = ",\"possible_actions\":[{\"type\":\"none\"}]}\n";
 
 /// The words of the command `serve`.
 pub const SERVE: [&str; 5] = [

@@ -1,7 +1,5 @@
 //! Games that the command `serve` plays.
 
-use crate::guests::{Crowd, Guest, JOIN_A, JOIN_B, JOIN_C, JOIN_D, JOIN_KEY, host_of};
-use crate::lines::{B, C, LINE_END, Part};
 use crate::patient::{PatientClock, PatientHost};
 use crate::running::{Met, SERVE, Wanted, comes_to, meets, run_on};
 use mj_front::Status;
@@ -11,6 +9,9 @@ use std::sync::Wait;
 use std::sync::atomic::AtomicU32;
 use std::thread::Threads;
 use std::time;
+use test_guests::{
+    B, C, Crowd, Guest, JOIN_A, JOIN_B, JOIN_C, JOIN_D, JOIN_KEY, LINE_END, Part, host_of,
+};
 
 const FOUR: [Guest<'static>; 4] = [JOIN_A, JOIN_B, JOIN_C, JOIN_D];
 

@@ -4,7 +4,6 @@ ghost use Rattle.std.specs.Prelude.{◌≡◌, [], true, false, IfOk, IfSome};
 ghost use Rattle.mj_wall.specs.Places.{is_wall};
 ghost use Rattle.turn_lock.specs.Turns.{IsIdle};
 
-use crate::guests::{Crowd, host_of};
 use mj_core::Core;
 use mj_links::{Came, Host, MemFault, Numbered};
 use mj_ports::Seated;
@@ -12,6 +11,7 @@ use mj_seats::{Lost, Room};
 use mj_tiles::Tile;
 use mj_wall::{Rules, Wall};
 use std::alloc::{AllocError, Global};
+use test_guests::{Crowd, host_of};
 use turn_lock::{Noted, Pass, Turn};
 
 // A room with the core of a game.

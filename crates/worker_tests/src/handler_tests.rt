@@ -3,9 +3,8 @@
 ghost use Rattle.std.specs.Prelude.{◌≡◌, []};
 ghost use Rattle.turn_lock.specs.Turns.{IsIdle};
 
-use crate::guests::{Crowd, Guest, JOIN_A, JOIN_D, JOIN_KEY, host_of};
 use crate::hall::{shuffled_two, sorted_two};
-use crate::lines::{HELLO, Part, START, are_made_of};
+use crate::lines::{START, are_made_of};
 use crate::player::{GONE, Shown, Step, THREE, act_all, look};
 use crate::tick_tests::tell_time;
 use mj_links::{MemClock, MemFault, MemHost, MemLink, Numbered};
@@ -13,6 +12,7 @@ use mj_ports::Seated;
 use mj_seats::{HandlerEnd, Room, Session, Ticked, handler};
 use std::alloc::Global;
 use std::sync::Wait;
+use test_guests::{Crowd, Guest, HELLO, JOIN_A, JOIN_D, JOIN_KEY, Part, host_of};
 use turn_lock::{Noted, Pass, Turn};
 
 // Whether the other pass has done all that it was to do, how a handler ended, what others see then, and the sessions that it

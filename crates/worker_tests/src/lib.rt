@@ -3,8 +3,6 @@
 #![tactic(auto)]
 
 #[cfg(test)]
-mod guests;
-#[cfg(test)]
 mod hall;
 #[cfg(test)]
 mod handler_tests;

@@ -10,17 +10,8 @@ use mj_ports::{Heard, Left, Seated, SitAnswer};
 use mj_seats::Room;
 use std::alloc::Global;
 use std::sync::Wait;
+use test_guests::{A, B, C, D};
 use turn_lock::{Noted, Pass, Turn};
-
-pub const A: &str = "{\"type\":\"join\",\"name\":\"a\"}";
-
-pub const B: &str = "{\"type\":\"join\",\"name\":\"b\"}";
-
-pub const C: &str = "{\"type\":\"join\",\"name\":\"c\"}";
-
-pub const D: &str = "{\"type\":\"join\",\"name\":\"d\"}";
-
-pub const KEY: &str = "{\"type\":\"join\",\"name\":\"d\",\"key\":\"k\"}";
 
 /// Three seats are taken.
 pub const THREE: [Step; 3] = [Step::Sits(A), Step::Sits(B), Step::Sits(C)];
@@ -36,8 +27,6 @@ pub const GONE: [Step; 8] = [
     Step::Leaves(2),
     Step::Leaves(3),
 ];
-
-pub const PASS: &str = "{\"type\":\"none\"}";
 
 /// What a player does.
 #[derive(Clone, Copy)]

@@ -2,16 +2,16 @@
 
 ghost use Rattle.turn_lock.specs.Turns.{IsIdle};
 
-use crate::guests::{Guest, link_of};
 use crate::hall::sorted_two;
-use crate::lines::{HEAD, HELLO, LINE_END, Part, START, are_made_of, bytes_of};
-use crate::player::{A, B, C, D, KEY, PASS, Shown, Step, THREE, act, act_all, act_often, look};
+use crate::lines::{HEAD, START, are_made_of};
+use crate::player::{Shown, Step, THREE, act, act_all, act_often, look};
 use crate::slow::SlowLink;
 use mj_links::{Link, Numbered, Wire};
 use mj_ports::{Seated, SitRefused};
 use mj_seats::{Ended, Room, Served, serve_seat};
 use std::alloc::Global;
 use std::sync::Wait;
+use test_guests::{A, B, C, D, Guest, HELLO, KEY, LINE_END, PASS, Part, bytes_of, link_of};
 use turn_lock::{Noted, Pass, Turn};
 
 const FOUR: [Step; 9] = [

@@ -3,8 +3,7 @@
 ghost use Rattle.std.specs.Prelude.{◌≡◌, IfOk};
 ghost use Rattle.mj_links.specs.FreshLinks.{IsFreshLink};
 
-use crate::lines::{LINE_END, Part, bytes_of};
-use crate::player::{A, D, KEY};
+use crate::lines::{A, B, C, D, KEY, LINE_END, Part, bytes_of};
 use mj_links::{MemHost, MemLink};
 use std::alloc::{AllocError, Global};
 
@@ -14,6 +13,10 @@ pub struct Guest<'a>(pub &'a [Part], pub &'a [u64], pub &'a [u64]);
 
 /// A guest that asks for a seat and says no more.
 pub const JOIN_A: Guest<'static> = Guest(&[Part(A, 1), LINE_END], &[], &[]);
+
+pub const JOIN_B: Guest<'static> = Guest(&[Part(B, 1), LINE_END], &[], &[]);
+
+pub const JOIN_C: Guest<'static> = Guest(&[Part(C, 1), LINE_END], &[], &[]);
 
 pub const JOIN_D: Guest<'static> = Guest(&[Part(D, 1), LINE_END], &[], &[]);
 

@@ -2,6 +2,7 @@
 
 use std::alloc::{AllocError, Global};
 
+/// Joins of four names.
 pub const A: &str = "{\"type\":\"join\",\"name\":\"a\"}";
 
 pub const B: &str = "{\"type\":\"join\",\"name\":\"b\"}";
@@ -10,17 +11,14 @@ pub const C: &str = "{\"type\":\"join\",\"name\":\"c\"}";
 
 pub const D: &str = "{\"type\":\"join\",\"name\":\"d\"}";
 
+/// A join that can take its seat back.
 pub const KEY: &str = "{\"type\":\"join\",\"name\":\"d\",\"key\":\"k\"}";
 
+/// The answer that does nothing.
 pub const PASS: &str = "{\"type\":\"none\"}";
 
+/// What each link is told first.
 pub const HELLO: &str = "{\"type\":\"hello\",\"protocol\":\"mjsonp\",\"protocol_version\":3}\n";
-
-/// What is told to a join that names a room of which there is none.
-pub const NO_ROOM: &str = "{\"type\":\"error\",\"sit\":8,\"message\":\"NoRoom\"}\n";
-
-/// How the line of a deed ends where a seat may only pass.
-pub const MAY_PASS: &str = ",\"possible_actions\":[{\"type\":\"none\"}]}\n";
 
 /// A text, so many times.
 #[derive(Clone, Copy)]

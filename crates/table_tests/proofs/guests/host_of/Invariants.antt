@@ -1,6 +1,0 @@
-use Rattle.std.proofs.Common.{All}
-use Rattle.mj_links.specs.FreshLinks.{IsFreshLink}
-use Rattle.table_tests.proofs.guests.host_of.Given as goal
-
-abbrev pub invariant-loop-guest : goal.invariant-loop-guest
-invariant-loop-guest l = All IsFreshLink l.links.items
