@@ -35,7 +35,7 @@ onto red lines wall = option_map (λ walls. wall ∷ walls) (walls_in red lines)
 reads : (red : Bool) (line : List ℕ) (lines : List (List ℕ)) (wall : Option (List ℕ)) → wall_in red line ≡ wall → walls_in red (line ∷ lines) ≡ option_and_then (onto red lines) wall
 reads red line lines wall is = ap (option_and_then (onto red lines)) is
 
--- The same of all lines, once one more is read.
+-- The walls of all lines, once one more is read.
 all_more : (red : Bool) (text : List ℕ) (walls : List (List ℕ)) (rest line others : List ℕ) (w : List ℕ)
     → TakesWalls red text walls rest → BeginsWithLine rest line others → wall_in red line ≡ Some w
     → walls_in red (whole_lines text) ≡ attach (walls ++ w ∷ []) (walls_in red (whole_lines others))

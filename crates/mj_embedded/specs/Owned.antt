@@ -10,7 +10,7 @@ use Rattle.std_alloc.specs.Box.Ownership.{box_owns}
 abbrev pub loose_owns : (R : RattleType) → Ptr → R.Denot → Fml
 loose_owns R p x = box_owns chunk R p x
 
--- The same where there is a value.
+-- Where there is a value, it stands so; where there is none, nothing is owned.
 abbrev pub held_owns : (R : RattleType) → Ptr → Option R.Denot → Fml
 held_owns R p None = ftrue
 held_owns R p (Some x) = loose_owns R p x
