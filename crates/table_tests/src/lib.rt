@@ -1,5 +1,5 @@
-//! Tests of whole games by their public calls: those of the commands `serve` and `tables`, and those that workers and tables of workers play, over links, hosts and
-//! clocks in memory or of the tests' own.
+//! Tests of whole games by their public calls: those of the commands `serve` and `tables`, and those that workers and tables of
+//! workers play, over links, hosts and clocks in memory or of the tests' own.
 #![tactic(auto)]
 
 #[cfg(test)]

@@ -1,5 +1,6 @@
-//! Tests of the workers by their public calls: turns, lists that are kept for proofs, faults that are kept, rooms, links that are served, handlers, and the telling of the
-//! time, at the core of a game and over links, hosts and clocks in memory or of the tests' own.
+//! Tests of the workers by their public calls: turns, lists that are kept for proofs, faults that are kept, rooms, links that are
+//! served, handlers, and the telling of the time, at the core of a game and over links, hosts and clocks in memory or of the
+//! tests' own.
 #![tactic(auto)]
 
 #[cfg(test)]
