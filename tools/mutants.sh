@@ -4,16 +4,16 @@
 #
 # usage: mutants.sh [NAME..]
 #
-# Without a NAME all are tried. The second line of a patch says what catches it: modules of hand_tests or of play_tests, cases of
-# riichi_cases, or the records in such cases, which mj_replay has to take. Several are built into one program: beside each crate
-# that a patch changes stands its changed copy, with copies of the crates and the test modules that use it. A line a patch says
-# which test or case caught it; the exit code is 0 where each was caught.
+# Without a NAME all are tried. The second line of a patch says what catches it: modules of hand_tests, deed_tests or play_tests,
+# cases of riichi_cases, or the records in such cases, which mj_replay has to take. Several are built into one program: beside
+# each crate that a patch changes stands its changed copy, with copies of the crates and the test modules that use it. A line a
+# patch says which test or case caught it; the exit code is 0 where each was caught.
 cd "$(dirname "$0")/.." || exit 2
 exec python3 - "$@" << 'END'
 import os, pathlib, re, shutil, subprocess, sys, tempfile
 
 HERE = pathlib.Path.cwd()
-AT_ONCE = {"hand_tests": 40, "play_tests": 7, "records": 7}
+AT_ONCE = {"hand_tests": 40, "deed_tests": 7, "play_tests": 7, "records": 7}
 
 
 def run(words, **how):
@@ -74,7 +74,7 @@ def stand_beside(folder, crates, mutant, changed):
     """Puts the changed crates of a mutant, those that its tests use over them, and its test modules beside the others."""
     tests = folder / "crates" / mutant.tests
     texts = {module: (tests / "src" / f"{module}.rt").read_text() for module in mutant.by}
-    used = set(re.findall(r"(?m)^use (mj_\w+)::", "\n".join(texts.values())))
+    used = set(re.findall(r"(?m)^use ((?:mj|test)_\w+)::", "\n".join(texts.values())))
     near = used | set().union(*(below(crates, name) for name in used))
     names = {name for name in near if name in mutant.crates or below(crates, name) & set(mutant.crates)}
     for name in sorted(names):
@@ -98,7 +98,7 @@ def only_needed(tests, mutants):
             kept.add(module)
             text = (tests / "src" / f"{module}.rt").read_text()
             open_ones += re.findall(r"\bcrate::(\w+)::", text)
-            used |= set(re.findall(r"(?m)^use (mj_\w+)::", text))
+            used |= set(re.findall(r"(?m)^use ((?:mj|test)_\w+)::", text))
     for file in (tests / "src").iterdir():
         if file.stem not in kept | {"lib"} and not re.match(r"m\d+_", file.stem):
             file.unlink()

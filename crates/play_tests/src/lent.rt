@@ -1,25 +1,4 @@
-//! Values that are lent to a test: the functions here own them, and know nothing else of them.
-
-use std::alloc::Global;
-
-/// What a test asks of a value.
-pub(crate) trait Of<T> {
-    /// Whether a value is as a text says.
-    fn is_as(alloc: Global, value: &T, told: &str) -> bool;
-}
-
-/// Whether there is a value, and it is as a text says.
-pub(crate) fn is_as<T: Drop, Q: Of<T>>(alloc: Global, value: Option<T>, told: &str) -> bool {
-    match &value {
-        Some(value) => Q::is_as(alloc, value, told),
-        None => false,
-    }
-}
-
-/// Whether there is no value.
-pub(crate) fn is_none<T: Drop>(value: Option<T>) -> bool {
-    value.is_none()
-}
+//! Values that are lent to what takes them: the functions here own them, and know nothing else of them.
 
 /// What takes values.
 pub(crate) trait Takes<T> {
@@ -35,14 +14,6 @@ pub(crate) fn is_taken<T: Drop, Q: Takes<T>>(
 ) -> bool {
     match &value {
         Some(value) => taker.takes(value, told),
-        None => false,
-    }
-}
-
-/// Whether there is a value, which goes to the end of a list.
-pub(crate) fn is_put<T: Drop>(list: &mut Vec<T>, value: Option<T>) -> bool {
-    match value {
-        Some(value) => list.push(value).is_ok(),
         None => false,
     }
 }

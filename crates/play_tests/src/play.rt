@@ -3,24 +3,22 @@
 
 ghost use Rattle.std.specs.Prelude.{◌≤◌};
 
-use crate::deed_words::{answer, deed};
 use crate::lent::{Takes, is_taken};
-use crate::rounds::{end, standing};
 use crate::safety::why;
-use crate::words::{
-    are, counts, kind, kinds, none_is_wrong, number, number_or_none, parted, points, seat, tile,
-    tile_or_none, word, yes,
-};
 use mj_bot::choose;
 use mj_deeds::{Answer, Deed, Reason, Rule};
 use mj_judge::{case_of, default, is_lawful, judge, possible};
 use mj_memory::Memory;
 use mj_readings::Riichi;
 use mj_table::Table;
-use mj_tiles::{Form, Kinds, Meld, Tile};
+use mj_tiles::{Kinds, Meld, Tile};
 use mj_wall::Rules;
 use std::alloc::Global;
 use std::process::Abort;
+use test_words::{
+    answer, are, counts, deed, end, kind, kinds, meld, name, none_is_wrong, number, number_or_none,
+    parted, points, seat, standing, tile, tile_or_none, word, yes,
+};
 
 /// Asserts that each line of some games is a deed that fits, or a question with the right answer.
 pub(crate) fn ask_games(rt: &impl Abort, alloc: Global, games: &[&str]) {
@@ -267,29 +265,6 @@ fn deed_told<'a>(table: &'a Table, word: &str) -> Option<&'a Deed> {
     }
 }
 
-/// The word for a deed.
-pub(crate) fn name(deed: Option<&Deed>) -> &'static str {
-    match deed {
-        None => "none",
-        Some(Deed::StartGame { .. }) => "game",
-        Some(Deed::StartHand { .. }) => "hand",
-        Some(Deed::Draw { .. }) => "draw",
-        Some(Deed::Discard { .. }) => "discard",
-        Some(Deed::Chi { .. }) => "chi",
-        Some(Deed::Pon { .. }) => "pon",
-        Some(Deed::OpenKan { .. }) => "open",
-        Some(Deed::ClosedKan { .. }) => "closed",
-        Some(Deed::AddedKan { .. }) => "added",
-        Some(Deed::Dora { .. }) => "dora",
-        Some(Deed::Reach { .. }) => "reach",
-        Some(Deed::ReachAccepted { .. }) => "accepted",
-        Some(Deed::Win { .. }) => "win",
-        Some(Deed::DrawnHand { .. }) => "drawn",
-        Some(Deed::EndHand) => "end",
-        Some(Deed::EndGame { .. }) => "over",
-    }
-}
-
 /// The word for the reason that ends the newest hand of a table.
 pub(crate) fn reason(table: &Table) -> &'static str {
     match table.reason() {
@@ -369,27 +344,6 @@ fn meld_at(table: &Table, seat: u8, place: u8) -> Option<Meld>
         .as_slice()
         .get(usize::from(place))
         .copied()
-}
-
-/// A meld: its form and its tiles, as `chi 2m 3m 4m`.
-pub(crate) fn meld(text: &str) -> Meld {
-    Meld {
-        form: form_of(word(text, 0)),
-        a: tile(word(text, 1)),
-        b: tile(word(text, 2)),
-        c: tile(word(text, 3)),
-        d: tile_or_none(word(text, 4)),
-    }
-}
-
-fn form_of(word: &str) -> Form {
-    match word {
-        "chi" => Form::Chi,
-        "pon" => Form::Pon,
-        "open" => Form::OpenKan,
-        "closed" => Form::ClosedKan,
-        _ => Form::AddedKan,
-    }
 }
 
 /// Whether a seat may answer just so, the answers parted by commas.

@@ -1,8 +1,8 @@
 use crate::play::{add, ask_games, follow, reason, rules};
-use crate::words::{Question, ask, field, tile};
 use mj_deeds::{Deed, next_seat};
 use mj_table::Table;
 use std::alloc::Global;
+use test_words::{Question, ask, field, tile};
 
 /// Before a game, and what fits where it begins. A first turn lasts from the start of the hand to the own discard.
 const BEGINNING: &str = "\

@@ -1,6 +1,6 @@
 use Rattle.std.proofs.Common.{◌≡◌, ◌∷◌, [], ◌∙◌, ap, refl, replicate, set, sym}
 use Rattle.mj_tiles.specs.Counts.{all_kinds, room_beside}
-use Rattle.play_tests.proofs.calls.is_lawful_beside_a_kan.Goals as goal
+use Rattle.deed_tests.proofs.calls.is_lawful_beside_a_kan.Goals as goal
 
 -- Beside four 1p there is room for none of that kind.
 room_beside_a_kan : set (replicate 34 4) 9 0 ≡ room_beside (9 ∷ 9 ∷ 9 ∷ 9 ∷ [])

@@ -1,7 +1,3 @@
-use crate::deed_words::{ask_deeds, deed, hands, names};
-use crate::lent::{Of, is_as, is_put};
-use crate::play::meld;
-use crate::words::{are, none_is_wrong, number, number_or_none, tile, word, yes};
 use mj_deeds::{
     Deed, Four, Hands, Names, Pai, ShownHands, Tiles, YakuList, concealed, is_call, is_hand_start,
     is_kan, melds, next_seat, ordered, river, seat_of_kan,
@@ -9,6 +5,10 @@ use mj_deeds::{
 use mj_ports::Name;
 use mj_tiles::{Meld, Tile};
 use std::alloc::{AllocError, Global};
+use test_words::{
+    Of, are, ask_deeds, deed, hands, is_as, is_put, meld, names, none_is_wrong, number,
+    number_or_none, tile, word, yes,
+};
 
 /// Deeds, whether they fit or not, and questions about those before.
 const CALLS: &str = "\

@@ -1,10 +1,6 @@
-ghost use Rattle.std.specs.Prelude.{IfSome};
-ghost use Rattle.mj_rounds.specs.Rounds.{MayStand};
-
-use crate::words::{Question, ask, field, kind, number, word};
-use mj_rounds::HandEnd::{Aborted, Drawn, Won};
-use mj_rounds::{HandEnd, Standing, first, next_hand};
+use mj_rounds::{first, next_hand};
 use std::alloc::Global;
+use test_words::{Question, ask, end, field, standing};
 
 /// The round, the dealer, the honba and the hand; how it ended; and the same of the next hand, or `over`.
 const HANDS: &str = "\
@@ -33,38 +29,6 @@ S 2 1 8|not ready|S 3 2 9
 S 2 1 8|another won|S 3 0 9
 S 0 0 9|another won|S 1 0 10
 E 0 198 198|ready|E 0 199 199";
-
-/// A standing, as `E 3 2 9`.
-pub(crate) fn standing(text: &str) -> Option<Standing>
-    ensures { IfSome result (λ now. MayStand now) }
-{
-    let (round, dealer) = (kind(word(text, 0)), number(word(text, 1)));
-    let (honba, hand) = (number(word(text, 2)), number(word(text, 3)));
-    if round.number() != 27 && round.number() != 28 || dealer > 3 || honba > 199 || hand > 199 {
-        return None;
-    }
-    Some(Standing {
-        round,
-        dealer,
-        honba: u32::from(honba),
-        hand: u32::from(hand),
-    })
-}
-
-/// How a hand ended; abortively where no other word stands.
-pub(crate) fn end(text: &str) -> HandEnd {
-    match text {
-        "dealer won" => Won { dealer_among: true },
-        "another won" => Won {
-            dealer_among: false,
-        },
-        "ready" => Drawn { dealer_ready: true },
-        "not ready" => Drawn {
-            dealer_ready: false,
-        },
-        _ => Aborted,
-    }
-}
 
 struct Follows;
 

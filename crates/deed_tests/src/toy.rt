@@ -2,11 +2,11 @@
 
 ghost use Rattle.std.specs.Prelude.{◌≡◌, ◌∷◌, [], Some, None, IfSome};
 ghost use Rattle.mj_ports.specs.declared.entry.Entry.TheVariants as entry;
-ghost use Rattle.play_tests.specs.declared.toy.Toy.TheVariants.{Fresh, Begun, Dealt};
+ghost use Rattle.deed_tests.specs.declared.toy.Toy.TheVariants.{Fresh, Begun, Dealt};
 ghost use Rattle.mj_ports.specs.declared.answers.SitAnswer.TheVariants as sits;
 ghost use Rattle.mj_ports.specs.declared.answers.Expiry.TheVariants.{Closed};
-ghost use Rattle.play_tests.specs.ToyGame.{first, shown, played, toy_says, toy_hears, IsLegalFrom};
-ghost use Rattle.play_tests.specs.ToyLaws as laws;
+ghost use Rattle.deed_tests.specs.ToyGame.{first, shown, played, toy_says, toy_hears, IsLegalFrom};
+ghost use Rattle.deed_tests.specs.ToyLaws as laws;
 
 use mj_ports::{Control, Expiry, Heard, Left, Seated, SitAnswer};
 use std::alloc::{AllocError, Global};

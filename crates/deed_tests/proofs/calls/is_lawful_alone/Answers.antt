@@ -1,6 +1,6 @@
 use Rattle.std.proofs.Common.{◌≡◌, [], ◌∙◌, refl, replicate}
 use Rattle.mj_tiles.specs.Counts.{all_kinds, room_beside}
-use Rattle.play_tests.proofs.calls.is_lawful_alone.Goals as goal
+use Rattle.deed_tests.proofs.calls.is_lawful_alone.Goals as goal
 
 -- Beside nothing there is room for four of each kind.
 room_beside_nothing : replicate 34 4 ≡ room_beside []

@@ -10,7 +10,7 @@ use Rattle.mj_ports.specs.declared.answers.SitAnswer.TheVariants as sits
 use Rattle.mj_ports.specs.Entries.{next_seat, IsAside}
 use Rattle.mj_ports.specs.SeatCalls.{IsRefused}
 use Rattle.mj_ports.specs.Seats.{Showing, pending, script, Stays, StaysEnded, Unmoved, Begins, Answers, Adds, Leaves, hello, replay}
-use Rattle.play_tests.specs.ToyGame.{Toy, first, zero_if, shown, toy_says, told_all, toy_hears, answered, toy_step, played, IsPermitted, IsLegalFrom}
+use Rattle.deed_tests.specs.ToyGame.{Toy, first, zero_if, shown, toy_says, told_all, toy_hears, answered, toy_step, played, IsPermitted, IsLegalFrom}
 
 abbrev pub after_toy : List (Entry ℕ) → Showing
 after_toy es = shown (played first es)

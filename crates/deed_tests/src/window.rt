@@ -1,10 +1,10 @@
-use crate::deed_words::{answer, ask_deeds, bid};
-use crate::lent::{Of, is_as, is_none};
-use crate::play::name;
-use crate::words::{Question, ask, field, number, number_or_none, parted, word};
 use mj_deeds::{Answer, Deed, Four};
 use mj_window::{Decision, Seats, Window, decide};
 use std::alloc::Global;
+use test_words::{
+    Of, Question, answer, ask, ask_deeds, bid, field, is_as, is_none, name, number, number_or_none,
+    parted, word,
+};
 
 /// The newest deed, the answers of the four seats (nothing for a pass), and what they decide.
 const DECISIONS: &str = "\

@@ -11,18 +11,18 @@ ghost use Rattle.std.specs.Prelude.{◌≤◌};
 
 use crate::lent::{Of, is_as};
 use crate::words::{
-    field, kind, number, number_or_none, parted, points, tile, tiles, truths, word,
+    field, kind, number, number_or_none, parted, points, tile, tile_or_none, tiles, truths, word,
 };
 use mj_deeds::{
     Answer, Bid, Deed, Four, Hands, Names, Pai, Reason, SeatList, ShownHands, Tiles, YakuList,
 };
 use mj_ports::Name;
-use mj_tiles::Tile;
+use mj_tiles::{Form, Meld, Tile};
 use std::alloc::Global;
 use std::process::Abort;
 
 /// Asserts that the deed of each line of a table is as the line says: the deed, `=`, and what is told of it.
-pub(crate) fn ask_deeds<R: Abort, Q: Of<Deed>>(rt: &R, alloc: Global, lines: &str) {
+pub fn ask_deeds<R: Abort, Q: Of<Deed>>(rt: &R, alloc: Global, lines: &str) {
     for line in lines.lines() {
         assert!(rt; deed_is_as::<Q>(alloc, line), "{line}");
     }
@@ -35,7 +35,7 @@ fn deed_is_as<Q: Of<Deed>>(alloc: Global, line: &str) -> bool {
 }
 
 /// The deed of a line.
-pub(crate) fn deed(alloc: Global, line: &str) -> Option<Deed> {
+pub fn deed(alloc: Global, line: &str) -> Option<Deed> {
     if line.contains('|') {
         return deed_of_fields(alloc, line);
     }
@@ -107,7 +107,7 @@ fn yaku(alloc: Global, hand: &str) -> Option<YakuList> {
 }
 
 /// At most two seats.
-pub(crate) fn seats(text: &str) -> SeatList {
+pub fn seats(text: &str) -> SeatList {
     match (number_or_none(word(text, 0)), number_or_none(word(text, 1))) {
         (Some(first), Some(second)) => SeatList::of(&[first, second]),
         (Some(first), None) => SeatList::of(&[first]),
@@ -152,7 +152,7 @@ fn hidden(text: &str) -> Four<Option<u8>> {
 }
 
 /// The reason for a drawn hand.
-pub(crate) fn reason(text: &str) -> Reason {
+fn reason(text: &str) -> Reason {
     match text {
         "kyushukyuhai" => Reason::Kyushukyuhai,
         "suufonrenta" => Reason::Suufonrenta,
@@ -163,7 +163,7 @@ pub(crate) fn reason(text: &str) -> Reason {
 }
 
 /// The names of the four seats.
-pub(crate) fn names() -> Four<Name> {
+pub fn names() -> Four<Name> {
     Four {
         first: Name::of(b"a"),
         second: Name::of(b"b"),
@@ -213,7 +213,7 @@ fn start(standing: &str, indicator: Tile, hands: Hands) -> Deed {
 }
 
 /// The tiles of the four seats, each told by a text.
-pub(crate) fn hands(alloc: Global, texts: [&str; 4]) -> Option<Hands> {
+pub fn hands(alloc: Global, texts: [&str; 4]) -> Option<Hands> {
     let mut hands = Vec::new(alloc);
     for text in texts {
         hands.push(tiles(alloc, text)?).ok()?;
@@ -297,7 +297,7 @@ fn tiles_from(line: &str, place: usize) -> Four<Tile>
 }
 
 /// The bid of a line: a chi, a pon or an open kan, or none.
-pub(crate) fn bid(line: &str) -> Bid {
+pub fn bid(line: &str) -> Bid {
     let (seat, target) = (number(word(line, 1)), number(word(line, 2)));
     let Four {
         first: tile,
@@ -334,7 +334,7 @@ pub(crate) fn bid(line: &str) -> Bid {
 
 /// The answer of a line, which stands as a deed's, or is `pass`, or `pass 0` with its actor, `ron 1 0` or `ron 1 0 5p` by seat 1
 /// on a tile of seat 0, or `nine 0`; `unread` and another word are an unread one. A hidden tile is `*`.
-pub(crate) fn answer(line: &str) -> Answer {
+pub fn answer(line: &str) -> Answer {
     let actor = number(word(line, 1));
     match word(line, 0) {
         "pass" => Answer::Pass {
@@ -448,5 +448,49 @@ fn answer_by_call(line: &str, actor: u8) -> Answer {
             b,
             c,
         },
+    }
+}
+
+/// The word for a deed.
+pub fn name(deed: Option<&Deed>) -> &'static str {
+    match deed {
+        None => "none",
+        Some(Deed::StartGame { .. }) => "game",
+        Some(Deed::StartHand { .. }) => "hand",
+        Some(Deed::Draw { .. }) => "draw",
+        Some(Deed::Discard { .. }) => "discard",
+        Some(Deed::Chi { .. }) => "chi",
+        Some(Deed::Pon { .. }) => "pon",
+        Some(Deed::OpenKan { .. }) => "open",
+        Some(Deed::ClosedKan { .. }) => "closed",
+        Some(Deed::AddedKan { .. }) => "added",
+        Some(Deed::Dora { .. }) => "dora",
+        Some(Deed::Reach { .. }) => "reach",
+        Some(Deed::ReachAccepted { .. }) => "accepted",
+        Some(Deed::Win { .. }) => "win",
+        Some(Deed::DrawnHand { .. }) => "drawn",
+        Some(Deed::EndHand) => "end",
+        Some(Deed::EndGame { .. }) => "over",
+    }
+}
+
+/// A meld: its form and its tiles, as `chi 2m 3m 4m`.
+pub fn meld(text: &str) -> Meld {
+    Meld {
+        form: form_of(word(text, 0)),
+        a: tile(word(text, 1)),
+        b: tile(word(text, 2)),
+        c: tile(word(text, 3)),
+        d: tile_or_none(word(text, 4)),
+    }
+}
+
+fn form_of(word: &str) -> Form {
+    match word {
+        "chi" => Form::Chi,
+        "pon" => Form::Pon,
+        "open" => Form::OpenKan,
+        "closed" => Form::ClosedKan,
+        _ => Form::AddedKan,
     }
 }

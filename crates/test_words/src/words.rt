@@ -8,25 +8,25 @@ use std::alloc::{AllocError, Global};
 use std::process::Abort;
 
 /// What a test asks of each line of a table.
-pub(crate) trait Question {
+pub trait Question {
     /// Whether a line is as it says.
     fn holds(alloc: Global, line: &str) -> bool;
 }
 
 /// Asserts that each line of a table is as it says.
-pub(crate) fn ask<R: Abort, Q: Question>(rt: &R, alloc: Global, lines: &str) {
+pub fn ask<R: Abort, Q: Question>(rt: &R, alloc: Global, lines: &str) {
     for line in lines.lines() {
         assert!(rt; Q::holds(alloc, line), "{line}");
     }
 }
 
 /// Asserts that no line of a game is wrong.
-pub(crate) fn none_is_wrong(rt: &impl Abort, wrong: &str) {
+pub fn none_is_wrong(rt: &impl Abort, wrong: &str) {
     assert!(rt; wrong.is_empty(), "{wrong}");
 }
 
 /// The field of a line at a place, the first one at 0; empty where there is none. Bars part fields.
-pub(crate) fn field(line: &str, place: usize) -> &str {
+pub fn field(line: &str, place: usize) -> &str {
     match line.split('|').nth(place) {
         Some(field) => field.trim(),
         None => "",
@@ -34,7 +34,7 @@ pub(crate) fn field(line: &str, place: usize) -> &str {
 }
 
 /// The word of a line at a place, the first one at 0; empty where there is none.
-pub(crate) fn word(line: &str, place: usize) -> &str {
+pub fn word(line: &str, place: usize) -> &str {
     match line.split_whitespace().nth(place) {
         Some(word) => word,
         None => "",
@@ -42,7 +42,7 @@ pub(crate) fn word(line: &str, place: usize) -> &str {
 }
 
 /// What stands before the first mark of a line and behind it.
-pub(crate) fn parted(line: &str, mark: char) -> (&str, &str) {
+pub fn parted(line: &str, mark: char) -> (&str, &str) {
     match line.split_once(mark) {
         Some(parts) => parts,
         None => (line, ""),
@@ -50,12 +50,12 @@ pub(crate) fn parted(line: &str, mark: char) -> (&str, &str) {
 }
 
 /// A number below 256, or none.
-pub(crate) fn number_or_none(text: &str) -> Option<u8> {
+pub fn number_or_none(text: &str) -> Option<u8> {
     text.parse().ok()
 }
 
 /// A number below 256; 255 where there is none.
-pub(crate) fn number(text: &str) -> u8 {
+pub fn number(text: &str) -> u8 {
     match text.parse() {
         Ok(number) => number,
         Err(_) => 255,
@@ -63,7 +63,7 @@ pub(crate) fn number(text: &str) -> u8 {
 }
 
 /// A seat, 3 where there is no lower one.
-pub(crate) fn seat(text: &str) -> u8
+pub fn seat(text: &str) -> u8
     ensures { result ≤ 3 }
 {
     match text {
@@ -75,7 +75,7 @@ pub(crate) fn seat(text: &str) -> u8
 }
 
 /// Four numbers, below zero with `-`.
-pub(crate) fn points(text: &str) -> [i32; 4] {
+pub fn points(text: &str) -> [i32; 4] {
     [
         signed(word(text, 0)),
         signed(word(text, 1)),
@@ -93,7 +93,7 @@ fn signed(text: &str) -> i32 {
 }
 
 /// Whether each of the first four words is `yes`.
-pub(crate) fn truths(text: &str) -> [bool; 4] {
+pub fn truths(text: &str) -> [bool; 4] {
     [
         yes(word(text, 0)),
         yes(word(text, 1)),
@@ -103,7 +103,7 @@ pub(crate) fn truths(text: &str) -> [bool; 4] {
 }
 
 /// The tile of a text, as `1m`, `5mr` or `E`; 5sr where there is none.
-pub(crate) fn tile(text: &str) -> Tile {
+pub fn tile(text: &str) -> Tile {
     match tile_or_none(text) {
         Some(tile) => tile,
         None => Tile::at(36),
@@ -111,23 +111,23 @@ pub(crate) fn tile(text: &str) -> Tile {
 }
 
 /// The tile of a text, or none.
-pub(crate) fn tile_or_none(text: &str) -> Option<Tile> {
+pub fn tile_or_none(text: &str) -> Option<Tile> {
     Tile::read(text.as_bytes())
 }
 
 /// The kind of the tile of a text.
-pub(crate) fn kind(text: &str) -> Kind {
+pub fn kind(text: &str) -> Kind {
     tile(text).kind()
 }
 
 /// Whether a text is `yes`.
-pub(crate) fn yes(text: &str) -> bool {
+pub fn yes(text: &str) -> bool {
     text == "yes"
 }
 
 /// Tiles that stand suit by suit, with 0 for a red five and each honour by its letter, as `123m 055p EES`. They come
 /// in tile order.
-pub(crate) fn tiles(alloc: Global, text: &str) -> Option<Tiles> {
+pub fn tiles(alloc: Global, text: &str) -> Option<Tiles> {
     let mut items = Vec::new(alloc);
     match push_tiles(&mut items, text) {
         Ok(()) => Tiles::sorted(alloc, items.as_slice()).ok(),
@@ -147,7 +147,7 @@ fn push_tiles(items: &mut Vec<Tile>, text: &str) -> Result<(), AllocError> {
 }
 
 /// How often each kind stands among such tiles; none does where one stands more than four times.
-pub(crate) fn counts(text: &str) -> Counts {
+pub fn counts(text: &str) -> Counts {
     let mut numbers = [0u8; 34];
     let mut suit = 0;
     for byte in text.as_bytes().iter().rev() {
@@ -169,7 +169,7 @@ fn none_held() -> Counts {
 }
 
 /// The kinds among such tiles.
-pub(crate) fn kinds(text: &str) -> Kinds {
+pub fn kinds(text: &str) -> Kinds {
     let mut kinds = Kinds::none();
     let mut suit = 0;
     for byte in text.as_bytes().iter().rev() {
@@ -201,7 +201,7 @@ fn tile_in(byte: u8, suit: u8) -> Option<Tile> {
 }
 
 /// Whether these are the tiles of the words of a text, in their order.
-pub(crate) fn are(tiles: &[Tile], text: &str) -> bool {
+pub fn are(tiles: &[Tile], text: &str) -> bool {
     let mut number: usize = 0;
     for word in text.split_whitespace() {
         if tiles.get(number).copied() != tile_or_none(word) {
