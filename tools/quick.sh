@@ -5,30 +5,69 @@
 # usage: quick.sh [NAME..]
 #
 # NAME is a crate; without one all that have tests or are programs. Each is built anew with run-time checks, as many at once as
-# there are processors. A test that hangs fails after a minute. Those that stop a whole game at each call of its disk take minutes
-# with such checks: they are begun, cut off and named. A line a crate says what came of it, and of one that failed its output
+# there are processors; crates of tests are built together, each as a module of one crate, since building what they stand on takes
+# most of the time. A test that hangs fails after a minute. Those that stop a whole game at each call of its disk take minutes
+# with such checks: they are begun, cut off and named. A line a build says what came of it, and of one that failed its output
 # follows. The exit code is 0 where none failed.
 cd "$(dirname "$0")/.." || exit 2
 command -v rt > /dev/null || { echo "quick.sh: there is no rt here: see README.md" >&2; exit 2; }
 logs=$(mktemp -d)
 trap 'rm -rf "$logs"' EXIT
 cut_off='checked: no-answer: the program did not end within the time limit'
-long='^whole_tests::a_whole_game_outlives_stops_in_its_'
+long='a_whole_game_outlives_stops_in_its_'
 
 # Whether a crate has tests.
 has_tests() {
     grep -qr '#\[test\]' "crates/$1/src"
 }
 
-# Runs the tests of a crate. The long ones that were cut off have not failed; their names go to a file of the logs.
+# Which crates of tests a crate is built with: those whose long tests are cut off, those whose tests wait, or the others.
+kind_of_tests() {
+    if grep -qr "^fn $long" "crates/$1/src"; then
+        echo cut
+    elif grep -q "^$1 .*Wait" crates.txt; then
+        echo waiting
+    else
+        echo others
+    fi
+}
+
+# Copies the sources to a folder, in which a crate of joined tests can stand beside them.
+copy_sources() {
+    git init -q "$1"
+    cp HANDLES crates.txt "$1"
+    for part in crates/*/src crates/*/specs crates/*/proofs; do
+        [ ! -d "$part" ] || { mkdir -p "$1/$(dirname "$part")" && cp -r "$part" "$1/$part"; }
+    done
+}
+
+# In such a folder makes a crate in which the tests of some crates are a module each, as in: join_tests FOLDER CRATE NAME..
+join_tests() {
+    local root=$1 joined=$2 name libraries=
+    shift 2
+    mkdir -p "$root/crates/$joined/src"
+    echo '#![tactic(auto)]' > "$root/crates/$joined/src/lib.rt"
+    for name in "$@"; do
+        cp -r "crates/$name/src" "$root/crates/$joined/src/$name"
+        mv "$root/crates/$joined/src/$name/lib.rt" "$root/crates/$joined/src/$name/mod.rt"
+        sed -i "s/\bcrate::/crate::$name::/g; /^#!\[tactic/d" "$root/crates/$joined/src/$name"/*.rt
+        printf '#[cfg(test)]\nmod %s;\n' "$name" >> "$root/crates/$joined/src/lib.rt"
+        libraries+=" $(sed -n "s/^$name\( [^:]*\)\?://p" crates.txt)"
+    done
+    echo "$joined tests_may=Threads+Wait: $(tr -s ' ' '\n' <<< "$libraries" | sort -u | tr '\n' ' ')" >> "$root/crates.txt"
+}
+
+# Runs the tests of crates of a kind. The long ones that were cut off have not failed; their names go to a file of the logs.
 try_tests() {
-    local seconds=60
-    ! grep -qr "^fn ${long#*::}" "crates/$1/src" || seconds=20
-    (cd "crates/$1" && rt try --test --seconds $seconds) > "$logs/$1.tests" 2>&1
-    local status=$?
-    cat "$logs/$1.tests"
-    grep -B 1 -F "$cut_off" "$logs/$1.tests" | sed -n 's/^test \(.*\) \.\.\. FAILED$/\1/p' | grep "$long" > "$logs/$1.cut"
-    [ $status -eq 0 ] || { [ -s "$logs/$1.cut" ] && [ "$(grep -c ' \.\.\. FAILED$' "$logs/$1.tests")" -eq "$(wc -l < "$logs/$1.cut")" ]; }
+    local kind=$1 seconds=60 status
+    shift
+    [ "$kind" != cut ] || seconds=20
+    copy_sources "$logs/$kind.sources" && join_tests "$logs/$kind.sources" "${kind}_tests" "$@" || return 1
+    (cd "$logs/$kind.sources/crates/${kind}_tests" && rt try --test --seconds $seconds) > "$logs/$kind.tests" 2>&1
+    status=$?
+    cat "$logs/$kind.tests"
+    grep -B 1 -F "$cut_off" "$logs/$kind.tests" | sed -n 's/^test \(.*\) \.\.\. FAILED$/\1/p' | grep "::$long" > "$logs/$kind.cut"
+    [ $status -eq 0 ] || { [ -s "$logs/$kind.cut" ] && [ "$(grep -c ' \.\.\. FAILED$' "$logs/$kind.tests")" -eq "$(wc -l < "$logs/$kind.cut")" ]; }
 }
 
 # Runs a program on what it is run on in the gate, and compares what it writes with what it must.
@@ -49,35 +88,38 @@ try_program() {
     return 1
 }
 
-# Tries a crate, and says in a line how that ended.
-try_crate() {
-    local start=$SECONDS failed=0
-    if has_tests "$1"; then
-        try_tests "$1" > "$logs/$1" 2>&1 || failed=1
+# Tries crates, given as one word, by a call that keeps its logs under a name, and says in a line how that ended.
+report() {
+    local crates=$1 name=$2 start=$SECONDS
+    shift 2
+    if "$@" > "$logs/$name" 2>&1; then
+        echo "$crates: ok, $((SECONDS - start)) s"
+        [ ! -s "$logs/$name.cut" ] || sed 's/^/    cut off: /' "$logs/$name.cut"
     else
-        try_program "$1" > "$logs/$1" 2>&1 || failed=1
-    fi
-    if [ $failed -eq 0 ]; then
-        echo "$1: ok, $((SECONDS - start)) s"
-        [ ! -s "$logs/$1.cut" ] || sed 's/^/    cut off: /' "$logs/$1.cut"
-    else
-        echo "$1: FAILED"
-        cat "$logs/$1"
+        echo "$crates: FAILED"
+        cat "$logs/$name"
         touch "$logs/failed"
     fi
 }
 
 names=("$@")
-if [ $# -eq 0 ]; then
-    # (those whose tests start threads take longest, and begin first)
-    mapfile -t names < <(for crate in crates/*/; do
-        name=$(basename "$crate")
-        if has_tests "$name" || [ -f "$crate/src/main.rt" ]; then echo "$(grep -c "^$name .*tests_may" crates.txt) $name"; fi
-    done | sort -r | cut -d ' ' -f 2)
-fi
+[ $# -gt 0 ] || mapfile -t names < <(basename -a crates/*/)
+declare -A tests=()
+programs=()
 for name in "${names[@]}"; do
+    if has_tests "$name"; then
+        tests[$(kind_of_tests "$name")]+=" $name"
+    elif [ -f "crates/$name/src/main.rt" ]; then
+        programs+=("$name")
+    fi
+done
+for kind in "${!tests[@]}"; do
+    read -ra crates <<< "${tests[$kind]}"
+    report "${crates[*]}" "$kind" try_tests "$kind" "${crates[@]}" &
+done
+for name in "${programs[@]}"; do
     while [ "$(jobs -rp | wc -l)" -ge "$(nproc)" ]; do wait -n; done
-    try_crate "$name" &
+    report "$name" "$name" try_program "$name" &
 done
 wait
 [ ! -e "$logs/failed" ]
