@@ -9,8 +9,6 @@ mod choices;
 #[cfg(test)]
 mod judge;
 #[cfg(test)]
-mod lent;
-#[cfg(test)]
 mod play;
 #[cfg(test)]
 mod possible;

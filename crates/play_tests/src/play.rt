@@ -3,7 +3,6 @@
 
 ghost use Rattle.std.specs.Prelude.{◌≤◌};
 
-use crate::lent::{Takes, is_taken};
 use crate::safety::why;
 use mj_bot::choose;
 use mj_deeds::{Answer, Deed, Reason, Rule};
@@ -67,6 +66,20 @@ pub(crate) fn follow(alloc: Global, table: &mut Table, line: &str) -> bool {
         return draws(table, number(times));
     }
     is_taken(table, deed(alloc, line), None)
+}
+
+/// What takes values, which `is_taken` owns and knows nothing else of.
+trait Takes<T> {
+    /// Takes a value that fits, or tells whether it fits or not as told.
+    fn takes(&mut self, value: &T, told: Option<bool>) -> bool;
+}
+
+/// Whether there is a value, and it is taken so.
+fn is_taken<T: Drop, Q: Takes<T>>(taker: &mut Q, value: Option<T>, told: Option<bool>) -> bool {
+    match &value {
+        Some(value) => taker.takes(value, told),
+        None => false,
+    }
 }
 
 impl Takes<Deed> for Table {
