@@ -1,7 +1,9 @@
-//! Tests of sources, sinks and links in memory, and of the commands over them, by their public calls. A game that can be told as
-//! arrivals is a case of `riichi_cases`.
+//! Tests of sources, sinks and links in memory, of the commands over them, and of commands and tables in the same process, by their
+//! public calls. A game that can be told as arrivals is a case of `riichi_cases`.
 #![tactic(auto)]
 
+#[cfg(test)]
+mod embedded_tests;
 #[cfg(test)]
 mod front_tests;
 #[cfg(test)]

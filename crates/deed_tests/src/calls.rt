@@ -1,8 +1,9 @@
+use crate::asking::{ask, ask_deeds};
 use mj_calls::{banned, chi_shape, riichi_kan, same_kind};
 use mj_deeds::Deed;
 use mj_tiles::{Counts, Form, Kind, Meld, Tile};
 use std::alloc::Global;
-use test_words::{Of, Question, ask, ask_deeds, counts, field, kind, kinds, tile, yes};
+use test_words::{Of, Question, counts, field, kind, kinds, tile, yes};
 
 /// A deed, and the kinds that may not be discarded right after it.
 const BANS: &str = "\

@@ -1,3 +1,4 @@
+use crate::asking::{ask_deeds, none_is_wrong};
 use mj_deeds::{
     Deed, Four, Hands, Names, Pai, ShownHands, Tiles, YakuList, concealed, is_call, is_hand_start,
     is_kan, melds, next_seat, ordered, river, seat_of_kan,
@@ -6,8 +7,7 @@ use mj_ports::Name;
 use mj_tiles::{Meld, Tile};
 use std::alloc::{AllocError, Global};
 use test_words::{
-    Of, are, ask_deeds, deed, hands, is_as, is_put, meld, names, none_is_wrong, number,
-    number_or_none, tile, word, yes,
+    Of, are, deed, hands, is_as, is_put, meld, names, number, number_or_none, tile, word, yes,
 };
 
 /// Deeds, whether they fit or not, and questions about those before.

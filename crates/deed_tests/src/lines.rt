@@ -2,6 +2,7 @@
 
 ghost use Rattle.std.specs.Prelude.{◌≡◌, ◌<◌};
 
+use crate::asking::{ask, ask_deeds};
 use crate::views::seen_by;
 use mj_deeds::{Answer, Deed, Rule, Viewer};
 use mj_ports::{JoinLine, Picked, SitRefused};
@@ -10,7 +11,7 @@ use mjai_lines::{Steps, error_line, read_answer, read_join, refusal_line, write}
 use std::alloc::Global;
 use std::marker::Brand;
 use std::sync::ledger::{Blank, Ledger};
-use test_words::{Of, Question, answer, ask, ask_deeds, is_as, number_or_none, parted};
+use test_words::{Of, Question, answer, is_as, number_or_none, parted};
 
 /// A deed, a viewer, which is a seat or the record, and its line. A start of a hand shows a seat its own tiles alone and the record
 /// all, a draw hides its tile from others, and the record alone is told the call that is kept and the winners that follow.

@@ -1,6 +1,7 @@
+use crate::asking::ask;
 use mj_rounds::{first, next_hand};
 use std::alloc::Global;
-use test_words::{Question, ask, end, field, standing};
+use test_words::{Question, end, field, standing};
 
 /// The round, the dealer, the honba and the hand; how it ended; and the same of the next hand, or `over`.
 const HANDS: &str = "\

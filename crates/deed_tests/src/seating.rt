@@ -1,7 +1,8 @@
+use crate::asking::ask;
 use mj_ports::{JoinLine, Key, Name, SitRefused};
 use mj_seating::{Desk, Placed};
 use std::alloc::Global;
-use test_words::{Question, ask, field, number, parted, word};
+use test_words::{Question, field, number, parted, word};
 
 /// What comes to an empty desk, what the last of it is answered, and the seats afterwards, `-` before one that is gone.
 /// A join is a name, or a name and a key; `-1` says that seat 1 leaves; `63*a:k` that seat 0 leaves and `a:k` joins, 63

@@ -1,11 +1,12 @@
+use crate::asking::ask_deeds;
 use mj_deeds::{Bid, Deed, Four, Reason, SeatList, ShownHands, Tiles, Token, Viewer};
 use mj_ports::Name;
 use mj_tiles::Tile;
 use mj_view::{Masked, SeenHands, mask, token};
 use std::alloc::Global;
 use test_words::{
-    Of, are, ask_deeds, bid, field, is_as, number, number_or_none, parted, seats, tile,
-    tile_or_none, word, yes,
+    Of, are, bid, field, is_as, number, number_or_none, parted, seats, tile, tile_or_none, word,
+    yes,
 };
 
 /// A deed, a seat, and what the token of it says: a start of a game the names; a draw its seat and its tile or

@@ -1,7 +1,8 @@
+use crate::asking::ask;
 use mj_tiles::Tile;
 use mj_wall::{Rules, Setting, Wall, Walls};
 use std::alloc::Global;
-use test_words::{Question, are, ask, field, number, tile, word};
+use test_words::{Question, are, field, number, tile, word};
 
 /// How many tiles of the sorted wall are read (after its 136 one C more), with tiles put into places, in a game with
 /// red fives or without; and the place that is wrong, if it is no wall.

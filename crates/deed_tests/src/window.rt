@@ -1,9 +1,9 @@
+use crate::asking::{ask, ask_deeds};
 use mj_deeds::{Answer, Deed, Four};
 use mj_window::{Decision, Seats, Window, decide};
 use std::alloc::Global;
 use test_words::{
-    Of, Question, answer, ask, ask_deeds, bid, field, is_as, is_none, name, number, number_or_none,
-    parted, word,
+    Of, Question, answer, bid, field, is_as, is_none, name, number, number_or_none, parted, word,
 };
 
 /// The newest deed, the answers of the four seats (nothing for a pass), and what they decide.

@@ -15,8 +15,8 @@ use mj_wall::Rules;
 use std::alloc::Global;
 use std::process::Abort;
 use test_words::{
-    answer, are, counts, deed, end, kind, kinds, meld, name, none_is_wrong, number, number_or_none,
-    parted, points, seat, standing, tile, tile_or_none, word, yes,
+    answer, are, counts, deed, end, kind, kinds, meld, name, number, number_or_none, parted,
+    points, seat, standing, tile, tile_or_none, word, yes,
 };
 
 /// Asserts that each line of some games is a deed that fits, or a question with the right answer.
@@ -24,6 +24,11 @@ pub(crate) fn ask_games(rt: &impl Abort, alloc: Global, games: &[&str]) {
     for game in games {
         none_is_wrong(rt, wrong_line(alloc, *game));
     }
+}
+
+/// Asserts that no line is wrong.
+pub(crate) fn none_is_wrong(rt: &impl Abort, wrong: &str) {
+    assert!(rt; wrong.is_empty(), "{wrong}");
 }
 
 /// The first line of a game that is no deed which fits, and no question with the right answer; empty where there is

@@ -1,8 +1,8 @@
-use crate::play::{add, ask_games, follow, reason, rules};
+use crate::play::{add, ask_games, follow, none_is_wrong, reason, rules};
 use mj_deeds::{Deed, next_seat};
 use mj_table::Table;
 use std::alloc::Global;
-use test_words::{Question, ask, field, tile};
+use test_words::{Question, field, tile, wrong_row};
 
 /// Before a game, and what fits where it begins. A first turn lasts from the start of the hand to the own discard.
 const BEGINNING: &str = "\
@@ -467,7 +467,7 @@ fn discard(table: &mut Table, tiles: &str) -> bool {
 
 #[test]
 fn four_first_discards_of_one_wind_end_the_hand(rt: HostRuntime) {
-    ask::<HostRuntime, Ending>(&rt, rt.alloc(), FIRST_DISCARDS);
+    none_is_wrong(&rt, wrong_row::<Ending>(rt.alloc(), FIRST_DISCARDS));
 }
 
 /// Whether a copy of an empty table has its rules and its points, and how many deeds each has once one was added to the

@@ -1,11 +1,9 @@
 //! Tests of what a served game stands on, by its public calls: hosts, TCP, the lines that are kept, the core of a game, its journal
-//! and its record, and a game in the same process.
+//! and its record.
 #![tactic(auto)]
 
 #[cfg(test)]
 mod core_tests;
-#[cfg(test)]
-mod embedded_tests;
 #[cfg(test)]
 mod host_tests;
 #[cfg(test)]

@@ -19,13 +19,15 @@ use mj_deeds::{
 use mj_ports::Name;
 use mj_tiles::{Form, Meld, Tile};
 use std::alloc::Global;
-use std::process::Abort;
 
-/// Asserts that the deed of each line of a table is as the line says: the deed, `=`, and what is told of it.
-pub fn ask_deeds<R: Abort, Q: Of<Deed>>(rt: &R, alloc: Global, lines: &str) {
+/// The first line of a table whose deed isn't as the line says: the deed, `=`, and what is told of it; empty where there is none.
+pub fn wrong_deed<'a, Q: Of<Deed>>(alloc: Global, lines: &'a str) -> &'a str {
     for line in lines.lines() {
-        assert!(rt; deed_is_as::<Q>(alloc, line), "{line}");
+        if !deed_is_as::<Q>(alloc, line) {
+            return line;
+        }
     }
+    ""
 }
 
 /// Whether the deed of a line is as the line says.

@@ -7,10 +7,10 @@ mod lent;
 mod rounds;
 mod words;
 
-pub use deed_words::{answer, ask_deeds, bid, deed, hands, meld, name, names, seats};
+pub use deed_words::{answer, bid, deed, hands, meld, name, names, seats, wrong_deed};
 pub use lent::{Of, is_as, is_none, is_put};
 pub use rounds::{end, standing};
 pub use words::{
-    Question, are, ask, counts, field, kind, kinds, none_is_wrong, number, number_or_none, parted,
-    points, seat, tile, tile_or_none, tiles, truths, word, yes,
+    Question, are, counts, field, kind, kinds, number, number_or_none, parted, points, seat, tile,
+    tile_or_none, tiles, truths, word, wrong_row, yes,
 };

@@ -5,7 +5,6 @@ ghost use Rattle.std.specs.Prelude.{◌≤◌};
 use mj_deeds::Tiles;
 use mj_tiles::{Counts, Kind, Kinds, Tile};
 use std::alloc::{AllocError, Global};
-use std::process::Abort;
 
 /// What a test asks of each line of a table.
 pub trait Question {
@@ -13,16 +12,14 @@ pub trait Question {
     fn holds(alloc: Global, line: &str) -> bool;
 }
 
-/// Asserts that each line of a table is as it says.
-pub fn ask<R: Abort, Q: Question>(rt: &R, alloc: Global, lines: &str) {
+/// The first line of a table that isn't as it says; empty where there is none.
+pub fn wrong_row<'a, Q: Question>(alloc: Global, lines: &'a str) -> &'a str {
     for line in lines.lines() {
-        assert!(rt; Q::holds(alloc, line), "{line}");
+        if !Q::holds(alloc, line) {
+            return line;
+        }
     }
-}
-
-/// Asserts that no line of a game is wrong.
-pub fn none_is_wrong(rt: &impl Abort, wrong: &str) {
-    assert!(rt; wrong.is_empty(), "{wrong}");
+    ""
 }
 
 /// The field of a line at a place, the first one at 0; empty where there is none. Bars part fields.
