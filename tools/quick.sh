@@ -7,13 +7,12 @@
 # NAME is a crate; without one all that have tests or are programs. Each is built anew with run-time checks, as many at once as
 # there are processors; crates of tests are built together, each as a module of one crate, since building what they stand on takes
 # most of the time. A test that hangs fails after a minute. Those that stop a whole game at each call of its disk take minutes
-# with such checks: they are begun, cut off and named. A line a build says what came of it, and of one that failed its output
-# follows. The exit code is 0 where none failed.
+# with such checks: they are left out, and named. A line a build says what came of it, and of one that failed its output follows.
+# The exit code is 0 where none failed.
 cd "$(dirname "$0")/.." || exit 2
 command -v rt > /dev/null || { echo "quick.sh: there is no rt here: see README.md" >&2; exit 2; }
 logs=$(mktemp -d)
 trap 'rm -rf "$logs"' EXIT
-cut_off='checked: no-answer: the program did not end within the time limit'
 long='a_whole_game_outlives_stops_in_its_'
 
 # Whether a crate has tests.
@@ -21,15 +20,9 @@ has_tests() {
     grep -qr '#\[test\]' "crates/$1/src"
 }
 
-# Which crates of tests a crate is built with: those whose long tests are cut off, those whose tests wait, or the others.
+# Which crates of tests a crate is built with: those whose tests wait for other threads, or the others.
 kind_of_tests() {
-    if grep -qr "^fn $long" "crates/$1/src"; then
-        echo cut
-    elif grep -q "^$1 .*Wait" crates.txt; then
-        echo waiting
-    else
-        echo others
-    fi
+    if grep -q "^$1 .*Wait" crates.txt; then echo waiting; else echo others; fi
 }
 
 # Copies the sources to a folder, in which a crate of joined tests can stand beside them.
@@ -41,7 +34,8 @@ copy_sources() {
     done
 }
 
-# In such a folder makes a crate in which the tests of some crates are a module each, as in: join_tests FOLDER CRATE NAME..
+# In such a folder makes a crate in which the tests of some crates are a module each, but the long ones, as in:
+# join_tests FOLDER CRATE NAME..
 join_tests() {
     local root=$1 joined=$2 name libraries=
     shift 2
@@ -51,23 +45,19 @@ join_tests() {
         cp -r "crates/$name/src" "$root/crates/$joined/src/$name"
         mv "$root/crates/$joined/src/$name/lib.rt" "$root/crates/$joined/src/$name/mod.rt"
         sed -i "s/\bcrate::/crate::$name::/g; /^#!\[tactic/d" "$root/crates/$joined/src/$name"/*.rt
+        sed -i "/^#\[test\]\$/{N;/\nfn $long/{:a;N;/\n}\$/!ba;d}}" "$root/crates/$joined/src/$name"/*.rt
         printf '#[cfg(test)]\nmod %s;\n' "$name" >> "$root/crates/$joined/src/lib.rt"
         libraries+=" $(sed -n "s/^$name\( [^:]*\)\?://p" crates.txt)"
     done
     echo "$joined tests_may=Threads+Wait: $(tr -s ' ' '\n' <<< "$libraries" | sort -u | tr '\n' ' ')" >> "$root/crates.txt"
 }
 
-# Runs the tests of crates of a kind. The long ones that were cut off have not failed; their names go to a file of the logs.
+# Runs the tests of crates of a kind.
 try_tests() {
-    local kind=$1 seconds=60 status
+    local kind=$1
     shift
-    [ "$kind" != cut ] || seconds=20
     copy_sources "$logs/$kind.sources" && join_tests "$logs/$kind.sources" "${kind}_tests" "$@" || return 1
-    (cd "$logs/$kind.sources/crates/${kind}_tests" && rt try --test --seconds $seconds) > "$logs/$kind.tests" 2>&1
-    status=$?
-    cat "$logs/$kind.tests"
-    grep -B 1 -F "$cut_off" "$logs/$kind.tests" | sed -n 's/^test \(.*\) \.\.\. FAILED$/\1/p' | grep "::$long" > "$logs/$kind.cut"
-    [ $status -eq 0 ] || { [ -s "$logs/$kind.cut" ] && [ "$(grep -c ' \.\.\. FAILED$' "$logs/$kind.tests")" -eq "$(wc -l < "$logs/$kind.cut")" ]; }
+    (cd "$logs/$kind.sources/crates/${kind}_tests" && rt try --test --seconds 60)
 }
 
 # Runs a program on what it is run on in the gate, and compares what it writes with what it must.
@@ -94,7 +84,6 @@ report() {
     shift 2
     if "$@" > "$logs/$name" 2>&1; then
         echo "$crates: ok, $((SECONDS - start)) s"
-        [ ! -s "$logs/$name.cut" ] || sed 's/^/    cut off: /' "$logs/$name.cut"
     else
         echo "$crates: FAILED"
         cat "$logs/$name"
@@ -122,4 +111,7 @@ for name in "${programs[@]}"; do
     report "$name" "$name" try_program "$name" &
 done
 wait
+for name in "${names[@]}"; do
+    sed -n "s/^fn \(${long}[a-z_]*\).*/left out: $name, \1/p" "crates/$name/src"/*.rt
+done
 [ ! -e "$logs/failed" ]
