@@ -27,6 +27,7 @@ class Mutant:
         head = file.read_text().split("\n", 2)[1]
         self.tests, by = re.fullmatch(r"caught by (\w+): (.+)", head).groups()
         self.by = by.split()
+        self.beside = set()
         changed = re.findall(r"(?m)^\+\+\+ b/crates/(\w+)/src/", file.read_text())
         self.crates = sorted(set(changed))
         self.caught = None
@@ -70,11 +71,27 @@ def renamed(text, names, modules, mark):
     return text
 
 
+def modules_below(tests, names):
+    """The texts of those modules of a test crate and of all that they stand on."""
+    texts, open_ones = {}, list(names)
+    while open_ones:
+        module = open_ones.pop()
+        if module not in texts:
+            texts[module] = (tests / "src" / f"{module}.rt").read_text()
+            open_ones += re.findall(r"\bcrate::(\w+)::", texts[module])
+    return texts
+
+
+def crates_in(text):
+    """The crates that a text uses, of the product and of the tests."""
+    return set(re.findall(r"(?m)^use ((?:mj|test)_\w+)::", text))
+
+
 def stand_beside(folder, crates, mutant, changed):
     """Puts the changed crates of a mutant, those that its tests use over them, and its test modules beside the others."""
     tests = folder / "crates" / mutant.tests
-    texts = {module: (tests / "src" / f"{module}.rt").read_text() for module in mutant.by}
-    used = set(re.findall(r"(?m)^use ((?:mj|test)_\w+)::", "\n".join(texts.values())))
+    texts = modules_below(tests, mutant.by)
+    used = crates_in("\n".join(texts.values()))
     near = used | set().union(*(below(crates, name) for name in used))
     names = {name for name in near if name in mutant.crates or below(crates, name) & set(mutant.crates)}
     for name in sorted(names):
@@ -84,25 +101,20 @@ def stand_beside(folder, crates, mutant, changed):
         for file in copy.rglob("*"):
             if file.suffix in (".rt", ".antt"):
                 file.write_text(renamed(file.read_text(), names, [], mutant.mark))
-    for module, text in texts.items():
-        (tests / "src" / f"{mutant.mark}_{module}.rt").write_text(renamed(text, names, mutant.by, mutant.mark))
+    mutant.beside = set(mutant.by) | {module for module, text in texts.items() if crates_in(text) & names}
+    for module in mutant.beside:
+        (tests / "src" / f"{mutant.mark}_{module}.rt").write_text(renamed(texts[module], names, mutant.beside, mutant.mark))
     return {f"{name}_{mutant.mark}": [f"{it}_{mutant.mark}" if it in names else it for it in crates[name]] for name in names}
 
 
 def only_needed(tests, mutants):
     """Leaves those modules of a test crate that the mutants' ones stand on, names the copies, and gives the crates that they use."""
-    kept, open_ones, used = set(), [module for mutant in mutants for module in mutant.by], set()
-    while open_ones:
-        module = open_ones.pop()
-        if module not in kept:
-            kept.add(module)
-            text = (tests / "src" / f"{module}.rt").read_text()
-            open_ones += re.findall(r"\bcrate::(\w+)::", text)
-            used |= set(re.findall(r"(?m)^use ((?:mj|test)_\w+)::", text))
+    texts = modules_below(tests, [module for mutant in mutants for module in mutant.by])
+    kept, used = set(texts), crates_in("\n".join(texts.values()))
     for file in (tests / "src").iterdir():
         if file.stem not in kept | {"lib"} and not re.match(r"m\d+_", file.stem):
             file.unlink()
-    kept |= {f"{mutant.mark}_{module}" for mutant in mutants for module in mutant.by}
+    kept |= {f"{mutant.mark}_{module}" for mutant in mutants for module in mutant.beside}
     lines = "".join(f"#[cfg(test)]\nmod {module};\n" for module in sorted(kept))
     (tests / "src" / "lib.rt").write_text("//! Tests of changed crates.\n#![tactic(auto)]\n\n" + lines)
     return sorted(used)
