@@ -1,6 +1,5 @@
-//! Tests of the workers by their public calls: turns, lists that are kept for proofs, faults that are kept, rooms, links that are
-//! served, handlers, and the telling of the time, at the core of a game and over links, hosts and clocks in memory or of the
-//! tests' own.
+//! Tests of the workers by their public calls: faults that are kept, rooms, links that are served, handlers, and the telling of the
+//! time, at the core of a game and over links, hosts and clocks in memory or of the tests' own.
 #![tactic(auto)]
 
 #[cfg(test)]
@@ -12,10 +11,6 @@ mod lines;
 #[cfg(test)]
 mod lost_tests;
 #[cfg(test)]
-mod pass_tests;
-#[cfg(test)]
-mod past_tests;
-#[cfg(test)]
 mod player;
 #[cfg(test)]
 mod seat_tests;
@@ -23,5 +18,3 @@ mod seat_tests;
 mod slow;
 #[cfg(test)]
 mod tick_tests;
-#[cfg(test)]
-mod turn_tests;
