@@ -1,8 +1,9 @@
-use crate::words::{Question, ask, field};
+use crate::words::ask;
 use mj_bytes::{
     push_all, push_number, push_signed, read_number, split_at_first, split_line, split_space, strip,
 };
 use std::alloc::{AllocError, Global};
+use test_words::{Question, field};
 
 fn written(alloc: Global) -> Result<Vec<u8>, AllocError> {
     let mut text = Vec::new(alloc);

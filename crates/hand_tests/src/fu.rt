@@ -1,8 +1,9 @@
-use crate::words::{Question, ask, case, field, number, reading};
+use crate::words::{ask, case, reading};
 use mj_fu::{fu, is_concealed_at, is_dragon, is_pinfu, is_run};
 use mj_readings::{Case, Reading, Set, SetForm};
 use mj_tiles::Kind;
 use std::alloc::Global;
+use test_words::{Question, field, number};
 
 /// Circumstances, a reading, its fu, and whether it is a pinfu. The third and the fourth have the pair of one wind of the two, and
 /// that of both.

@@ -1,6 +1,7 @@
-use crate::words::{Question, ask, field};
+use crate::words::ask;
 use mj_hand::hand_lines;
 use std::alloc::{AllocError, Global};
+use test_words::{Question, field};
 
 /// Words, and the shanten, the target and the waits that are written of their hand: hands that are ready, one of them with its
 /// tiles in another order, hands that are not, one of them with a red five, and hands with melds, whose tiles are not

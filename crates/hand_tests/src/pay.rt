@@ -1,6 +1,7 @@
-use crate::words::{Question, ask, field, number};
+use crate::words::ask;
 use mj_pay::{base, deposit, draw_deltas, ron_deltas, tsumo_deltas};
 use std::alloc::Global;
+use test_words::{Question, field, number};
 
 /// Han, fu and the base points in tens: below 5 han with the least fu, the most that stay below the limit, and the least that reach it.
 const BASES: &str = "\

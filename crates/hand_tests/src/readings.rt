@@ -1,9 +1,10 @@
-use crate::words::{Question, ask, counts, field, kind, kinds, meld, number, reading, yes};
+use crate::words::{ask, meld, reading};
 use mj_readings::{
     Reading, completing, is_complete, is_complete_with, is_completed_by, reading_at, readings,
 };
 use mj_tiles::{Counts, Form, Kind, Kinds};
 use std::alloc::Global;
+use test_words::{Question, counts, field, kind, kinds, number, yes};
 
 /// Concealed tiles, the number of melds, and whether they are a complete hand; such tiles and one more; the kinds that complete
 /// such a hand; and tiles, the winning one, and the first reading beside a pon of P, or without melds.

@@ -1,8 +1,9 @@
-use crate::words::{Question, ask, bit, case, counts, field, kind, meld, number, numbers, word};
+use crate::words::{ask, bit, case, meld, numbers};
 use mj_score::{Extra, Score, worth};
 use mj_tiles::Form;
 use mj_yaku::is_closed;
 use std::alloc::{AllocError, Global};
+use test_words::{Question, counts, field, kind, number, word};
 
 /// The worth of a hand without melds, or beside a pon of `1m`, with so many dora of the shown and hidden indicators and red fives.
 fn score(

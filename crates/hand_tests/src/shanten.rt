@@ -3,10 +3,11 @@ ghost use Rattle.mj_tiles.specs.Counts.{NoFifth};
 ghost use Rattle.mj_readings.specs.Tests.{one_more};
 ghost use Rattle.mj_shanten.specs.Exchanges.{IsNearestOf};
 
-use crate::words::{Question, ask, counts, field, kinds, number};
+use crate::words::ask;
 use mj_shanten::{Nearest, Suits, exchange_path, shanten};
 use mj_tiles::{Counts, Kind, Kinds};
 use std::alloc::Global;
+use test_words::{Question, counts, field, kinds, number};
 
 // Hands with melds are those of `hand`.
 

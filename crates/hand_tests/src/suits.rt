@@ -1,6 +1,7 @@
-use crate::words::{Question, ask, field, number};
+use crate::words::ask;
 use mj_suits::{Split, SuitSet, SuitSets, SuitTable, nearest, partitions};
 use std::alloc::Global;
+use test_words::{Question, field, number};
 
 /// A run from a number on.
 const fn run(low: u8) -> SuitSet {

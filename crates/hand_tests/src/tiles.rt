@@ -1,8 +1,9 @@
-use crate::words::{Question, ask, counts, field, kind, number};
+use crate::words::ask;
 use mj_tiles::{
     Counts, Form, Kind, Kinds, Meld, Melds, Tile, after, counts_of, number_among, push_times,
 };
 use std::alloc::{AllocError, Global};
+use test_words::{Question, counts, field, kind, number};
 
 /// A text, and the face and the kind of the tile that it names; `-` for none. Then an indicator and its dora.
 const CASES: &str = "\

@@ -1,7 +1,8 @@
-use crate::words::{Question, ask, counts, field, kinds, number, yes};
+use crate::words::ask;
 use mj_tiles::{Counts, Kinds};
 use mj_waits::{Facts, furiten, misses_some, ready, waits};
 use std::alloc::Global;
+use test_words::{Question, counts, field, kinds, number, yes};
 
 /// Concealed tiles, those of melds, how many melds they are, and the waits; then own discards, kinds passed, kinds passed in riichi,
 /// and whether that is furiten with the waits 2s and 5s.

@@ -3,50 +3,15 @@
 ghost use Rattle.std.specs.Prelude.{◌<◌};
 
 use mj_readings::{Case, Reading, Riichi, Set, SetForm};
-use mj_tiles::{Counts, Form, Kind, Kinds, Meld, Tile};
+use mj_tiles::{Form, Kind, Meld, Tile};
 use std::alloc::Global;
 use std::process::Abort;
-
-/// What a test asks of each line of a table.
-pub(crate) trait Question {
-    /// Whether a line is as it says.
-    fn holds(alloc: Global, line: &str) -> bool;
-}
+use test_words::{Question, kind, kinds, number, word, wrong_row};
 
 /// Asserts that each line of a table is as it says.
 pub(crate) fn ask<R: Abort, Q: Question>(rt: &R, alloc: Global, lines: &str) {
-    for line in lines.lines() {
-        assert!(rt; Q::holds(alloc, line), "{line}");
-    }
-}
-
-/// The field of a line at a place, the first one at 0; empty where there is none.
-pub(crate) fn field(line: &str, place: usize) -> &str {
-    match line.split('|').nth(place) {
-        Some(field) => field.trim(),
-        None => "",
-    }
-}
-
-/// The word of a text at a place, the first one at 0; empty where there is none. Spaces part words.
-pub(crate) fn word(text: &str, place: usize) -> &str {
-    match text.split(' ').nth(place) {
-        Some(word) => word,
-        None => "",
-    }
-}
-
-/// Whether a text is `yes`.
-pub(crate) fn yes(text: &str) -> bool {
-    text == "yes"
-}
-
-/// A number of a line; 255 where it is no number below 256.
-pub(crate) fn number(text: &str) -> u8 {
-    match text.parse() {
-        Ok(number) => number,
-        Err(_) => 255,
-    }
+    let wrong = wrong_row::<Q>(alloc, lines);
+    assert!(rt; wrong.is_empty(), "{wrong}");
 }
 
 /// A list of numbers of a line, as a mask of bits: a number above 63 is none of it.
@@ -61,77 +26,6 @@ pub(crate) fn numbers(text: &str) -> u64 {
 /// The bit of a number, none above 63.
 pub(crate) fn bit(number: u8) -> u64 {
     if number < 64 { 1 << number } else { 0 }
-}
-
-/// The kind of the tile that a text names, 1m where it names none.
-pub(crate) fn kind(text: &str) -> Kind {
-    match Tile::read(text.as_bytes()) {
-        Some(tile) => tile.kind(),
-        None => Kind::at(0),
-    }
-}
-
-/// The numbers of tiles that stand suit by suit, each honour by its letter, as `123m 55p EES`; all are 0 where one is above 4.
-pub(crate) fn counts(text: &str) -> Counts {
-    let mut numbers = [0; 34];
-    let mut suit = 0;
-    for byte in text.as_bytes().iter().rev() {
-        suit = suit_after(*byte, suit);
-        if let Some(kind) = kind_of(*byte, suit) {
-            let place = kind.number() as usize;
-            numbers[place] = more(numbers[place]);
-        }
-    }
-    match Counts::of(numbers) {
-        Some(counts) => counts,
-        None => none_held(),
-    }
-}
-
-/// The counts of no tile.
-fn none_held() -> Counts {
-    Counts::from_numbers([0; 34])
-}
-
-fn more(number: u8) -> u8 {
-    number.saturating_add(1)
-}
-
-/// The lowest kind of the suit that a letter names; another byte leaves the suit as it is.
-fn suit_after(byte: u8, suit: u8) -> u8 {
-    match byte {
-        b'm' => 0,
-        b'p' => 9,
-        b's' => 18,
-        _ => suit,
-    }
-}
-
-fn kind_of(byte: u8, suit: u8) -> Option<Kind> {
-    match byte {
-        b'1'..=b'9' => Kind::of(suit.saturating_add(byte - b'1')),
-        b'E' => Some(Kind::at(27)),
-        b'S' => Some(Kind::at(28)),
-        b'W' => Some(Kind::at(29)),
-        b'N' => Some(Kind::at(30)),
-        b'P' => Some(Kind::at(31)),
-        b'F' => Some(Kind::at(32)),
-        b'C' => Some(Kind::at(33)),
-        _ => None,
-    }
-}
-
-/// The kinds that stand suit by suit.
-pub(crate) fn kinds(text: &str) -> Kinds {
-    let counts = counts(text);
-    let mut kinds = Kinds::none();
-    for number in 0..34 {
-        let kind = Kind::at(number);
-        if counts.get(kind) > 0 {
-            kinds = kinds.with(kind);
-        }
-    }
-    kinds
 }
 
 /// A reading as its sets, pair, place of the winning tile and winning tile, as its pairs, or as the doubled one of its orphans.

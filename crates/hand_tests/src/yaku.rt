@@ -1,10 +1,9 @@
-use crate::words::{
-    Question, ask, bit, case, counts, field, kind, meld, number, numbers, reading, yes,
-};
+use crate::words::{ask, bit, case, meld, numbers, reading};
 use mj_readings::{Case, is_complete};
 use mj_tiles::{Counts, Form, Kind};
 use mj_yaku::{YakuSet, complete_has_yaku, han_of, has_yaku, is_closed, yaku};
 use std::alloc::Global;
+use test_words::{Question, counts, field, kind, number, yes};
 
 /// Of each row its han in a closed and in an open hand, 100 for a yakuman and 0 where it asks for a closed hand, a hand that has the
 /// row, and one near to it that doesn't. A hand is its circumstances, or `-`, and its reading, with `q` for a concealed kan among its

@@ -1,6 +1,7 @@
-use crate::words::{Question, ask, field, number, yes};
+use crate::words::ask;
 use crate::yaku::yaku_of;
 use std::alloc::Global;
+use test_words::{Question, field, number, yes};
 
 /// A row, whether a hand has it, and the hand, as `yaku` has them: how a hand was won.
 const WINS: &str = "\

@@ -12,5 +12,5 @@ pub use lent::{Of, is_as, is_none, is_put};
 pub use rounds::{end, standing};
 pub use words::{
     Question, are, counts, field, kind, kinds, number, number_or_none, parted, points, seat, tile,
-    tile_or_none, tiles, truths, word, wrong_row, yes,
+    tile_or_none, word, wrong_row, yes,
 };

@@ -90,7 +90,7 @@ fn signed(text: &str) -> i32 {
 }
 
 /// Whether each of the first four words is `yes`.
-pub fn truths(text: &str) -> [bool; 4] {
+pub(crate) fn truths(text: &str) -> [bool; 4] {
     [
         yes(word(text, 0)),
         yes(word(text, 1)),
@@ -124,7 +124,7 @@ pub fn yes(text: &str) -> bool {
 
 /// Tiles that stand suit by suit, with 0 for a red five and each honour by its letter, as `123m 055p EES`. They come
 /// in tile order.
-pub fn tiles(alloc: Global, text: &str) -> Option<Tiles> {
+pub(crate) fn tiles(alloc: Global, text: &str) -> Option<Tiles> {
     let mut items = Vec::new(alloc);
     match push_tiles(&mut items, text) {
         Ok(()) => Tiles::sorted(alloc, items.as_slice()).ok(),
