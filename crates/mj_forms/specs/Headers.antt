@@ -1,6 +1,6 @@
 -- The header and the walls of a game as lines, of an input and of a record alike.
-use Rattle.std.specs.Prelude.{ℕ, ◌+◌, ◌^◌, ◌==◌, ◌&&◌, Bool, true, false, nat_le, if◌then◌else◌, List, [], ◌∷◌, ◌++◌, codes}
-use Rattle.std.specs.Prelude.{bytes_eq, Option, Some, None, option_and_then, option_map, ◌≡◌, decimal, flat_map}
+use Rattle.std.specs.Prelude.{ℕ, ◌+◌, ◌&&◌, Bool, true, false, nat_le, if◌then◌else◌, List, [], ◌∷◌, ◌++◌, codes}
+use Rattle.std.specs.Prelude.{bytes_eq, Option, Some, None, option_and_then, option_map, decimal, flat_map}
 use Rattle.mj_bytes.specs.Numbers.{decimal_of}
 use Rattle.mj_bytes.specs.Parts.{fields, behind}
 use Rattle.mj_tiles.specs.Faces.{face_of, text_of}

@@ -1,5 +1,5 @@
 -- The hand that words name is a hand to be measured.
-use Rattle.std.proofs.Common.{◌≡◌, ℕ, ◌+◌, ◌-◌, ◌*◌, ◌<◌, List, [], ◌∷◌, ◌++◌, length, map, get_or, sum, Bool, true, false, cond, eqb, leb, ltb, ◌&&◌, refl, ap, ap₂, sym, ◌∙◌, arith, subst, inl, inr}
+use Rattle.std.proofs.Common.{◌≡◌, ℕ, ◌+◌, ◌-◌, ◌*◌, ◌<◌, List, [], ◌∷◌, ◌++◌, length, map, get_or, sum, Bool, true, false, cond, eqb, ltb, ◌&&◌, refl, ap, ap₂, sym, ◌∙◌, arith, subst, inl, inr}
 use Rattle.std.specs.Prelude.{Option, Some, None, option_map, option_and_then, flat_map, count_by, bytes_eq, IfSome}
 use Rattle.std.specs.List.{list_all, list_any}
 use Rattle.std.proofs.lemmas.Bool.{or_cases, and_parts, eqb-true, ltb-true, lt-ltb, false≢true}
@@ -16,7 +16,7 @@ use Rattle.mj_readings.specs.declared.reading.Set.{Set}
 use Rattle.mj_readings.specs.declared.reading.SetForm.{SetForm}
 use Rattle.mj_readings.specs.declared.reading.SetForm.TheVariants.{Run, Triplet, Kan}
 use Rattle.mj_readings.specs.Sets.{tiles_of_set, tiles_of_form, tally}
-use Rattle.mj_shanten.specs.Room.{is_meld_form, IsRoom, IsHand}
+use Rattle.mj_shanten.specs.Room.{is_meld_form, IsHand}
 use Rattle.mj_shanten.specs.Room as room
 use Rattle.mj_shanten.proofs.Parting.{run_low}
 use Rattle.mj_shanten.proofs.Sums.{all_low, sum_tally}

@@ -3,7 +3,7 @@ use Rattle.std.specs.Prelude.{ℕ, ◌+◌, ◌^◌, ◌==◌, ◌&&◌, not, Bo
 use Rattle.std.specs.Prelude.{length, codes, bytes_eq, Option, Some, None, is_some, unwrap_or, option_and_then, option_map}
 use Rattle.std.specs.Option.{option_map_or}
 use Rattle.mj_bytes.specs.Numbers.{decimal_of}
-use Rattle.mj_bytes.specs.Parts.{whole_lines, unfinished, fields, parted, behind}
+use Rattle.mj_bytes.specs.Parts.{whole_lines, unfinished, fields, parted}
 use Rattle.mj_ports.specs.declared.entry.Entry.{Entry}
 use Rattle.mj_ports.specs.declared.entry.Entry.TheVariants.{Said, Gone, Expired}
 use Rattle.mj_deeds.specs.declared.answer.Answer.{Answer}

@@ -1,5 +1,5 @@
 -- The record of a game: its header, its walls, and the record's line of each deed. What a text is that may be one.
-use Rattle.std.specs.Prelude.{◌≡◌, ℕ, ◌+◌, ◌==◌, ◌&&◌, Bool, true, false, not, nat_lt, nat_le, List, [], ◌∷◌, ◌++◌, length, codes, bytes_eq, take, ℤ, pos, negsuc}
+use Rattle.std.specs.Prelude.{◌≡◌, ℕ, ◌+◌, ◌==◌, ◌&&◌, Bool, true, false, nat_lt, nat_le, List, [], ◌∷◌, ◌++◌, length, codes, bytes_eq, take, ℤ, pos, negsuc}
 use Rattle.std.specs.List.{list_all}
 use Rattle.mj_bytes.specs.Parts.{whole_lines, unfinished}
 use Rattle.mj_ports.specs.Names.{is_name}

@@ -1,7 +1,7 @@
 -- What everybody sees of a deed holds no secret; and two lists of played deeds that are alike for watchers: a hand that is dealt from
 -- two walls, the first draw, a discard that both dealers hold, and the next draw.
 use Rattle.std.proofs.Common.{◌≡◌, ◌≢◌, ◌<◌, ℕ, zero, suc, ◌==◌, ◌&&◌, Bool, true, false, List, [], ◌∷◌, length, refl, ap, sym, ◌∙◌, arith}
-use Rattle.std.specs.Prelude.{codes, Some, None, flat_map, replicate}
+use Rattle.std.specs.Prelude.{codes, None, flat_map, replicate}
 use Rattle.std.specs.List.{slice_index_or}
 use Rattle.std.specs.Str.{chars, is_utf8}
 use Rattle.std.proofs.lemmas.Bool.{true≢false}
@@ -27,7 +27,7 @@ use Rattle.mj_rules.specs.Outcome.{outcome, hand_start, next_draw}
 use Rattle.mj_rules.specs.Played.{IsPlayed}
 use Rattle.mj_rules.specs.View.{view_of}
 use Rattle.mj_observe.specs.Laws.{TokensHoldNoSecret, AreAlikeInPublic}
-use Rattle.mj_observe.specs.Traces.{secrets, public_trace, ArePlayed}
+use Rattle.mj_observe.specs.Traces.{secrets, public_trace}
 
 pub tokens_hold_no_secret : TokensHoldNoSecret
 tokens_hold_no_secret = record {

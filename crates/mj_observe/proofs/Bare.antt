@@ -1,5 +1,5 @@
 -- A deed that follows, as everybody sees it, is what its public token says beside the deeds before it as everybody sees them.
-use Rattle.std.proofs.Common.{◌≡◌, ℕ, ◌+◌, ◌==◌, Bool, true, false, true≢false, cond, List, [], ◌∷◌, ◌++◌, length, map, refl, ap, sym, ◌∙◌, replicate, eqb-true}
+use Rattle.std.proofs.Common.{◌≡◌, ℕ, ◌+◌, ◌==◌, Bool, true, false, true≢false, cond, List, [], ◌∷◌, ◌++◌, length, refl, ap, sym, ◌∙◌, replicate, eqb-true}
 use Rattle.std.specs.Prelude.{Option, Some, None, option_map, unwrap_or}
 use Rattle.std.proofs.lemmas.List.{length-replicate, map-append}
 use Rattle.mj_rounds.specs.declared.rounds.Standing.{Standing}
@@ -22,7 +22,7 @@ use Rattle.mj_rules.proofs.MaskedView.{win_shown-masked, accept-masked, draw_sho
 use Rattle.mj_view.specs.Seen.{own_tile}
 use Rattle.mj_view.specs.Tokens.{token}
 use Rattle.mj_forms.specs.Lines.{shown_tiles, hidden_tile, start_hand_line, reach_accepted_line, win_line}
-use Rattle.mj_secrecy.proofs.Rebuilt.{after_dora, known_or_blank, hands_known, start_known, start_rebuilt, rebuilt, DealsThirteen, masked_is_rebuilt}
+use Rattle.mj_secrecy.proofs.Rebuilt.{after_dora, start_known, start_rebuilt, rebuilt, DealsThirteen, masked_is_rebuilt}
 use Rattle.mj_observe.specs.Views.{all_hidden, public_line, is_hand_end}
 use Rattle.mj_observe.specs.Traces.{public_token}
 

@@ -1,5 +1,5 @@
 -- What an observer keeps of the newest hand, one deed further.
-use Rattle.std.proofs.Common.{◌≡◌, ℕ, suc, ◌+◌, ◌-◌, ◌*◌, ◌≤◌, ◌<◌, ◌==◌, Bool, true, false, cond, List, [], ◌∷◌, ◌++◌, length, take, flat_map, refl, ap, sym, ◌∙◌, arith, append-nil}
+use Rattle.std.proofs.Common.{◌≡◌, ℕ, suc, ◌+◌, ◌-◌, ◌*◌, ◌≤◌, ◌==◌, Bool, true, false, cond, List, [], ◌∷◌, ◌++◌, length, take, flat_map, refl, ap, sym, ◌∙◌, arith, append-nil}
 use Rattle.std.specs.Prelude.{codes}
 use Rattle.std.proofs.Math.Seq.{take-append_seam}
 use Rattle.std.proofs.lemmas.Bool.Decides.{Decides-eqb}
@@ -12,7 +12,7 @@ use Rattle.mj_deeds.specs.Hand.{is_hand_start, hand}
 use Rattle.mj_deeds.proofs.HandSteps.{behind, hand_more}
 use Rattle.mj_forms.specs.Lines.{line}
 use Rattle.mj_forms.proofs.Closing.{lines_close}
-use Rattle.mj_observe.specs.Views.{public_line, public_part, is_hand_end, in_full, hand_shown_line}
+use Rattle.mj_observe.specs.Views.{public_line, public_part, is_hand_end, hand_shown_line}
 use Rattle.mj_observe.specs.Inner.Kept.{KeepsHand, one_more, of_hand, shown_at}
 
 begins : (before : List Deed) (d : Deed) → is_hand_start d ≡ true → hand (before ++ d ∷ []) ≡ d ∷ []

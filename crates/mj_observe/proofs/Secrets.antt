@@ -1,7 +1,5 @@
 -- What everybody sees of deeds and their secrets together are the deeds.
-use Rattle.std.proofs.Common.{◌≡◌, ℕ, List, [], ◌∷◌, refl, ap, sym, ◌∙◌}
-use Rattle.mj_deeds.specs.declared.four.Four.{Four}
-use Rattle.mj_deeds.specs.declared.bid.Bid.{Bid}
+use Rattle.std.proofs.Common.{◌≡◌, List, [], ◌∷◌, refl, ap, sym, ◌∙◌}
 use Rattle.mj_deeds.specs.declared.deed.Deed.{Deed}
 use Rattle.mj_deeds.specs.declared.deed.Deed.TheVariants as deeds
 use Rattle.mj_observe.specs.Traces.{Secrets, secrets}

@@ -1,12 +1,9 @@
 -- A watcher is told no more than it may learn.
-use Rattle.std.proofs.Common.{◌≡◌, ℕ, ◌≤◌, Bool, true, false, cond, List, [], ◌∷◌, ◌++◌, length, refl, ap, sym, ◌∙◌, arith}
-use Rattle.std.specs.Prelude.{IsTrue}
-use Rattle.std.specs.List.{list_all}
+use Rattle.std.proofs.Common.{◌≡◌, ℕ, Bool, true, false, cond, List, [], ◌∷◌, ◌++◌, refl, ap, sym, ◌∙◌}
 use Rattle.mj_deeds.specs.declared.deed.Deed.{Deed}
 use Rattle.mj_deeds.specs.declared.token.Token.{Token}
 use Rattle.mj_deeds.specs.Hand.{hand}
 use Rattle.mj_wall.specs.declared.setting.Rules.{Rules}
-use Rattle.mj_wall.specs.Places.{is_wall}
 use Rattle.mj_rules.specs.Played.{AllPlayed}
 use Rattle.mj_rules.specs.Outcome.{wall_of}
 use Rattle.mj_rules.proofs.Playing.{each_is_wall}

@@ -1,5 +1,5 @@
 -- What a watcher without tiles may learn of deeds: at once what lies open to everybody, and of each hand the rest once it has ended.
-use Rattle.std.specs.Prelude.{◌≡◌, ℕ, ◌≤◌, Bool, true, false, if◌then◌else◌, List, [], ◌∷◌, ◌++◌, length, None, flat_map}
+use Rattle.std.specs.Prelude.{◌≡◌, ℕ, ◌≤◌, true, if◌then◌else◌, List, [], ◌∷◌, ◌++◌, length, None, flat_map}
 use Rattle.std.specs.List.{list_all}
 use Rattle.mj_deeds.specs.declared.four.Four.{Four}
 use Rattle.mj_deeds.specs.declared.bid.Bid.{Bid}

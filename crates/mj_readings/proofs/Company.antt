@@ -7,7 +7,7 @@ use Rattle.std.proofs.lemmas.Bool.Decides.{nat_tests}
 use Rattle.mj_readings.specs.declared.reading.Set.{Set}
 use Rattle.mj_readings.specs.declared.reading.SetForm.{SetForm}
 use Rattle.mj_readings.specs.declared.reading.SetForm.TheVariants.{Run, Triplet, Kan}
-use Rattle.mj_readings.specs.Sets.{tally, tiles_of_set, tiles_of_form, is_concealed, is_concealed_form, begins_run}
+use Rattle.mj_readings.specs.Sets.{tiles_of_set, tiles_of_form, is_concealed, is_concealed_form, begins_run}
 use Rattle.mj_readings.specs.Complete.{AreSetsAndPair}
 use Rattle.mj_readings.specs.Tests.{one_more}
 use Rattle.mj_readings.specs.Inner.OneMore.{has_company}

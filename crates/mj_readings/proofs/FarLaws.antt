@@ -1,5 +1,5 @@
 -- Hands that no exchange of one tile completes, by their sums.
-use Rattle.std.proofs.Common.{ℕ, ◌≡◌, ◌<◌, ◌≤◌, ◌+◌, ◌-◌, ◌∷◌, [], Bool, true, false, List, length, get_or, set, length-set, refl, sym, ◌∙◌, ap, arith, eqb, leb, ltb, zero, suc, ◌&&◌, ◌||◌}
+use Rattle.std.proofs.Common.{ℕ, ◌≡◌, ◌<◌, ◌≤◌, ◌+◌, ◌-◌, ◌∷◌, [], true, false, List, length, get_or, set, length-set, sym, ◌∙◌, ap, arith, eqb, leb, ltb, zero, suc, ◌&&◌}
 use Rattle.std.specs.List.{count_by}
 use Rattle.std.proofs.lemmas.Bool.{and_parts, and_right, or_from, ltb-true}
 use Rattle.std.proofs.lemmas.Bool.Decides.{nat_tests}

@@ -1,20 +1,19 @@
 -- Which kinds complete a hand, and why others do not.
 use Rattle.std.proofs.Common.{ℕ, ◌≡◌, ◌<◌, ◌≤◌, ◌+◌, ◌-◌, ◌∷◌, [], Bool, true, false, cond, List, length, get_or, set, length-set, get_or-set_same, get_or-set_other}
-use Rattle.std.proofs.Common.{refl, sym, subst, ◌∙◌, ap, arith, eqb, leb, ltb, zero, suc, Option, Some, None, ◌⊎◌, inl, inr, ◌&&◌, ◌||◌}
+use Rattle.std.proofs.Common.{refl, sym, ◌∙◌, ap, arith, eqb, leb, ltb, zero, suc, Option, Some, None, ◌⊎◌, inl, inr, ◌&&◌, ◌||◌}
 use Rattle.std.specs.List.{list_all, list_any, count_by}
 use Rattle.std.specs.Option.{is_some}
 use Rattle.std.specs.Prelude.{not}
-use Rattle.std.proofs.lemmas.Bool.{and_parts, and_from, and_left, and_right, or_from, le-ltb, lt-ltb, ltb-true, le-leb, lt-leb}
+use Rattle.std.proofs.lemmas.Bool.{and_parts, and_from, and_left, and_right, or_from, lt-ltb, ltb-true}
 use Rattle.std.proofs.lemmas.Bool.{eqb-true, eq-eqb, or_left, false≢true, ne_eqb, cases_eq, cases_lt, false_from_ne_true}
 use Rattle.std.proofs.lemmas.Bool.Decides.{nat_tests}
 use Rattle.std.proofs.lemmas.Grind.{common_steps}
 use Rattle.std.proofs.lemmas.List.{set_past}
-use Rattle.mj_tiles.specs.Counts.{IsCounts, NoFifth, all_kinds}
+use Rattle.mj_tiles.specs.Counts.{IsCounts, all_kinds}
 use Rattle.mj_tiles.specs.Kinds.{has_kind, no_kinds, kinds_that}
 use Rattle.mj_tiles.proofs.EachKind.{no_kind}
 use Rattle.mj_tiles.proofs.KindSets.{has_kind-kinds_that, has_kind-none}
 use Rattle.mj_tiles.specs.Terminals.{is_terminal_or_honour}
-use Rattle.mj_readings.specs.Sets.{begins_run}
 use Rattle.mj_readings.specs.Complete.{is_seven_pairs, orphan_number}
 use Rattle.mj_readings.specs.Inner.Ways.{has_way}
 use Rattle.mj_readings.specs.Tests.{complete, one_more, orphan_double}

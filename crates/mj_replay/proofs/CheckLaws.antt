@@ -1,6 +1,6 @@
 -- The steps of a check, said of plain lists.
 use Rattle.std.proofs.Common.{◌≡◌, ℕ, ◌+◌, ◌-◌, ◌≤◌, ◌<◌, List, [], ◌∷◌, ◌++◌, Bool, true, false, refl, ap, sym, ◌∙◌, subst, length, arith, append_assoc, append-nil, take, suc}
-use Rattle.std.specs.Prelude.{Some, None, Option, option_to_list, if◌then◌else◌, ◌==◌, ◌&&◌, nat_le, bytes_eq, codes, flat_map}
+use Rattle.std.specs.Prelude.{Some, None, option_to_list, if◌then◌else◌, ◌==◌, ◌&&◌, nat_le, bytes_eq, codes, flat_map}
 use Rattle.std.specs.List.{list_all}
 use Rattle.std.proofs.lemmas.Bool.{false≢true, le-leb, ltb-true}
 use Rattle.std.proofs.lemmas.Bool.Decides.{Decides-eqb}

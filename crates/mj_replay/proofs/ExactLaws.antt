@@ -1,8 +1,8 @@
 -- What is said of a text as a record is the one thing that can be said of it: two beginnings of one text go line by line.
 use Rattle.std.proofs.Common.{◌≡◌, ℕ, suc, ◌+◌, ◌<◌, ◌≤◌, List, [], ◌∷◌, ◌++◌, Bool, true, false, refl, ap, sym, ◌∙◌, subst, length, take, arith, append_assoc, append-nil}
-use Rattle.std.specs.Prelude.{◌&&◌, not, nat_le, bytes_eq, codes, flat_map}
+use Rattle.std.specs.Prelude.{◌&&◌, nat_le, bytes_eq, codes, flat_map}
 use Rattle.std.specs.List.{list_all}
-use Rattle.std.proofs.lemmas.Bool.{false≢true, and_from, and_parts, leb-true, lt-ltb, not-true}
+use Rattle.std.proofs.lemmas.Bool.{false≢true, and_from, and_parts, leb-true, lt-ltb}
 use Rattle.std.proofs.lemmas.Bool.Decides.{Decides-eqb}
 use Rattle.std.proofs.lemmas.List.{length-append}
 use Rattle.mj_bytes.specs.Parts.{has_byte, whole_lines, unfinished}

@@ -1,8 +1,7 @@
 -- The listed answers are the plain ones that are lawful.
-use Rattle.std.proofs.Common.{◌≡◌, ℕ, ◌<◌, ◌==◌, ◌&&◌, ◌||◌, not, Bool, true, false, cond, eqb, List, [], ◌∷◌, ◌++◌, refl, sym, ap, ◌∙◌, subst, arith}
-use Rattle.std.specs.Prelude.{Option, Some, None, is_none, nat_lt, filter, flat_map, map, Contains, ◌↔◌}
-use Rattle.std.specs.Option.{option_map_or}
-use Rattle.std.specs.List.{list_any, list_all}
+use Rattle.std.proofs.Common.{◌≡◌, ℕ, ◌<◌, ◌==◌, ◌&&◌, not, Bool, true, false, cond, eqb, List, [], ◌∷◌, ◌++◌, refl, sym, ap, ◌∙◌, subst}
+use Rattle.std.specs.Prelude.{Option, Some, None, is_none, flat_map, map, Contains, ◌↔◌}
+use Rattle.std.specs.List.{list_any}
 use Rattle.std.proofs.lemmas.Bool.{and_parts, and_from, or_parts, eq-eqb, eqb-true, ltb-true, not-false, agree_below_at}
 use Rattle.std.proofs.lemmas.List.Elements.{Contains-append_left, Contains-append_right}
 use Rattle.std.proofs.lemmas.List.Folds.{Any-from_list_any}
@@ -19,10 +18,10 @@ use Rattle.mj_deeds.specs.declared.deed.Deed.{Deed}
 use Rattle.mj_deeds.specs.Answers.{is_in_form}
 use Rattle.mj_deeds.specs.Facts.{is_pon}
 use Rattle.mj_wall.specs.declared.setting.Rules.{Rules}
-use Rattle.mj_rules.specs.View.{WindowTurn, Drew, Discarded, Added, Reached, Called, Nobodys, SeatView, view_of}
+use Rattle.mj_rules.specs.View.{WindowTurn, Drew, Discarded, Added, SeatView, view_of}
 use Rattle.mj_rules.specs.Broken.{is_no_tile, is_tile, is_alike, is_open, is_own_pon, misses_discard, misses_winning, questions, broken_by}
 use Rattle.mj_rules.specs.Played.{IsLawful}
-use Rattle.mj_rules.specs.Possible.{is_plain, is_lawful, faces_of, discards_of, all_discards, chis_with, all_chis, pons_of, open_kans_of, all_calls, closed_kans_of, all_closed_kans}
+use Rattle.mj_rules.specs.Possible.{is_plain, is_lawful, faces_of, discards_of, all_discards, chis_with, all_chis, pons_of, all_calls, closed_kans_of, all_closed_kans}
 use Rattle.mj_rules.specs.Possible.{added_kans_of, all_added_kans, triplets, all_wins, candidates, possible_by, possible, is_hidden_or_face, names_faces}
 use Rattle.mj_rules.proofs.Questions.{AllNo, all_no}
 use Rattle.mj_rules.proofs.InTurn.{kept_member}

@@ -1,7 +1,7 @@
 -- The listed answers are plain, and stand in turn.
-use Rattle.std.proofs.Common.{◌≡◌, ℕ, zero, suc, ◌+◌, ◌<◌, ◌≤◌, ◌==◌, ◌&&◌, ◌||◌, not, Bool, true, false, eqb, List, []}
-use Rattle.std.proofs.Common.{◌∷◌, ◌++◌, drop, get_or, refl, sym, ap, ◌∙◌, subst, arith, append-nil, append_assoc}
-use Rattle.std.specs.Prelude.{Some, None, is_none, nat_lt, filter, flat_map, map, Contains, All, AllPairs, ◌≢◌}
+use Rattle.std.proofs.Common.{◌≡◌, ℕ, suc, ◌+◌, ◌<◌, ◌≤◌, ◌==◌, Bool, true, false, List, []}
+use Rattle.std.proofs.Common.{◌∷◌, ◌++◌, drop, refl, sym, ap, ◌∙◌, subst, arith, append-nil, append_assoc}
+use Rattle.std.specs.Prelude.{None, nat_lt, filter, flat_map, map, Contains, All, AllPairs, ◌≢◌}
 use Rattle.std.specs.List.{list_any, list_all}
 use Rattle.std.proofs.lemmas.Bool.{and_parts, and_from, or_left, or_right, eq-eqb, eqb-true, lt-ltb, not-false}
 use Rattle.std.proofs.lemmas.List.Elements.{All-nil, All-cons, All-append, All-map, All-weaker, All-contains, All-filter, filter-append}
@@ -12,16 +12,15 @@ use Rattle.mj_tiles.specs.Faces.{kind_of, tile_order}
 use Rattle.mj_tiles.specs.declared.meld.Meld.{Meld}
 use Rattle.mj_deeds.specs.declared.answer.Pai.TheVariants.{Known}
 use Rattle.mj_deeds.specs.declared.answer.Answer.{Answer}
-use Rattle.mj_deeds.specs.declared.answer.Answer.TheVariants.{Unread, Pass, Discard, Chi, Pon, OpenKan, ClosedKan, AddedKan, Reach, Win, NineKinds}
+use Rattle.mj_deeds.specs.declared.answer.Answer.TheVariants.{Pass, Discard, Chi, Pon, OpenKan, ClosedKan, AddedKan, Reach, Win, NineKinds}
 use Rattle.mj_deeds.specs.declared.deed.Deed.{Deed}
-use Rattle.mj_deeds.specs.Answers.{is_in_form, place_of}
-use Rattle.mj_deeds.specs.Facts.{is_pon}
+use Rattle.mj_deeds.specs.Answers.{place_of}
 use Rattle.mj_wall.specs.declared.setting.Rules.{Rules}
-use Rattle.mj_rules.specs.View.{WindowTurn, Drew, Discarded, Added, Reached, Called, Nobodys, SeatView, view_of}
-use Rattle.mj_rules.specs.Broken.{is_unreadable, is_tile, is_own_pon, questions, broken_by}
+use Rattle.mj_rules.specs.View.{WindowTurn, Drew, Discarded, Added, SeatView, view_of}
+use Rattle.mj_rules.specs.Broken.{is_own_pon}
 use Rattle.mj_rules.specs.Possible.{is_plain, is_lawful, faces_of, discards_of, all_discards, chis_with, all_chis, pons_of, open_kans_of, all_calls, closed_kans_of}
 use Rattle.mj_rules.specs.Possible.{all_closed_kans, added_kans_of, all_added_kans, triplets, all_wins, candidates, possible_by, possible, key_of, comes_before}
-use Rattle.mj_rules.proofs.InTurn.{Turned, turned-append, turned-map, turned-flat_map, turned-filter, turned-kept, turned-pairs, turned-from_pairs, pairs_pass, turned-by}
+use Rattle.mj_rules.proofs.InTurn.{Turned, turned-append, turned-map, turned-flat_map, turned-filter, turned-kept, turned-pairs, turned-from_pairs, turned-by}
 use Rattle.mj_rules.proofs.Listed.{lawful_clear}
 
 -- the order of keys

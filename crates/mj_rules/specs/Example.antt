@@ -1,6 +1,5 @@
 -- A first hand whose dealer holds four of three kinds, and the answers that it may give to its first draw.
 use Rattle.std.specs.Prelude.{ℕ, true, false, List, [], ◌∷◌}
-use Rattle.mj_deeds.specs.declared.four.Four.{Four}
 use Rattle.mj_deeds.specs.declared.answer.Pai.TheVariants.{Known}
 use Rattle.mj_deeds.specs.declared.answer.Answer.{Answer}
 use Rattle.mj_deeds.specs.declared.answer.Answer.TheVariants.{Discard, ClosedKan, Reach}

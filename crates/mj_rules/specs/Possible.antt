@@ -1,5 +1,5 @@
 -- The answers that a seat may give: the list that stands beside a line.
-use Rattle.std.specs.Prelude.{ℕ, ◌==◌, ◌&&◌, ◌||◌, not, if◌then◌else◌, Bool, true, false, is_none, nat_lt, List, [], ◌∷◌, ◌++◌, map, filter, flat_map, None}
+use Rattle.std.specs.Prelude.{ℕ, ◌==◌, ◌&&◌, ◌||◌, if◌then◌else◌, Bool, true, false, is_none, nat_lt, List, [], ◌∷◌, ◌++◌, map, filter, flat_map, None}
 use Rattle.std.specs.List.{list_all}
 use Rattle.mj_tiles.specs.Faces.{kind_of, tile_order}
 use Rattle.mj_tiles.specs.declared.meld.Meld.{Meld}

@@ -1,5 +1,5 @@
 -- The law of one world: games that agree for a seat tell it the same.
-use Rattle.std.specs.Prelude.{◌≡◌, ℕ, ◌∷◌, ◌++◌}
+use Rattle.std.specs.Prelude.{◌≡◌, ℕ}
 use Rattle.mj_history.specs.After.{connections, scripts}
 use Rattle.mj_history.specs.Legal.{Game}
 use Rattle.mj_secrecy.specs.Trace.{Agree}

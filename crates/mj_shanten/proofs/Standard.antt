@@ -12,7 +12,7 @@ use Rattle.mj_readings.specs.Complete.{AreSetsAndPair}
 use Rattle.mj_readings.proofs.Tiles.{number_at, number_at-append, count-flat_map}
 use Rattle.mj_readings.proofs.Laws.{length-tally, get_or-tally}
 use Rattle.mj_suits.specs.Sets as suit
-use Rattle.mj_suits.specs.Sets.{count_of, counts_of, is_well_formed, is_pair, tiles_of_pair}
+use Rattle.mj_suits.specs.Sets.{count_of, is_pair, tiles_of_pair}
 use Rattle.mj_suits.specs.Targets.{IsTarget}
 use Rattle.mj_suits.proofs.Tiles.{count_of-append}
 use Rattle.mj_suits.proofs.Whole.{counts_are, get_or-counts_of, length-counts_of}

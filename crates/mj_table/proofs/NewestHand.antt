@@ -1,17 +1,14 @@
 -- No more stands in the newest hand of deeds that fit than is kept of it, and what is kept of it with a deed more.
-use Rattle.std.proofs.Common.{◌≡◌, ℕ, suc, ◌+◌, ◌-◌, ◌==◌, ◌<◌, ◌≤◌, ◌||◌, ◌&&◌, not, eqb, ltb, Bool, true, false, List, [], ◌∷◌, ◌++◌, length, get_or, cond, refl, sym, ap, ◌∙◌, subst, arith}
+use Rattle.std.proofs.Common.{◌≡◌, ℕ, ◌+◌, ◌-◌, ◌<◌, ◌≤◌, ◌||◌, ◌&&◌, not, eqb, ltb, Bool, true, false, List, [], ◌∷◌, ◌++◌, length, cond, refl, sym, ap, ◌∙◌, subst, arith}
 use Rattle.std.specs.Prelude.{flat_map, Option, Some}
-use Rattle.std.proofs.lemmas.Bool.{ltb-true, ne_eqb}
-use Rattle.std.proofs.lemmas.Grind.{common_steps}
+use Rattle.std.proofs.lemmas.Bool.{ltb-true}
 use Rattle.std.proofs.lemmas.List.{length-append}
 use Rattle.std.proofs.lemmas.List.Sums.{sum_by-cons}
-use Rattle.mj_tiles.specs.Counts.{number_of}
-use Rattle.mj_tiles.proofs.CountSteps.{number_of-append}
 use Rattle.mj_deeds.specs.declared.deed.Deed.{Deed}
 use Rattle.mj_deeds.specs.declared.deed.Deed.TheVariants.{StartHand, Draw, OpenKan, ClosedKan, AddedKan, Dora}
 use Rattle.mj_deeds.specs.Facts.{newest, indicators_by, indicators, adds_by, is_kan, kans, is_live_draw, live_draws, live_tiles}
 use Rattle.mj_deeds.specs.Firsts.{is_first}
-use Rattle.mj_deeds.specs.Fits.{ground_of, is_in_place, is_after_kan, fits, all_fit, has_live, brought_by}
+use Rattle.mj_deeds.specs.Fits.{ground_of, is_in_place, is_after_kan, fits, all_fit, has_live}
 use Rattle.mj_deeds.specs.Hand.{is_hand_start, hand}
 use Rattle.mj_deeds.proofs.Fitted.{Parts, all_fit-append, kept, kept_in_hand, parts_of, four_kans, four_melds, four_of_kind}
 use Rattle.mj_deeds.proofs.HandSteps.{behind, hand_more}
@@ -26,7 +23,7 @@ use Rattle.mj_facts.specs.declared.mark_facts.MarkFacts.{MarkFacts}
 use Rattle.mj_facts.specs.declared.seat_facts.SeatFacts.{SeatFacts}
 use Rattle.mj_deeds.specs.Four.{at_seat}
 use Rattle.mj_facts.specs.Hands.{hand_with}
-use Rattle.mj_facts.specs.Hands.{Brings, Knows, Few}
+use Rattle.mj_facts.specs.Hands.{Knows, Few}
 use Rattle.mj_facts.specs.Seats.{Keeps, KeepsMarks}
 use Rattle.mj_wall.specs.declared.setting.Rules.{Rules}
 

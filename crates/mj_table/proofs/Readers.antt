@@ -6,7 +6,7 @@ use Rattle.std.specs.List.{list_any}
 use Rattle.std.proofs.lemmas.Bool.{cases_lt, ne_eqb}
 use Rattle.std.proofs.lemmas.List.{get_or_past}
 use Rattle.std.proofs.lemmas.List.Concat.{flat_map-cons}
-use Rattle.std.proofs.lemmas.List.Sums.{sum_by-append, sum_by-cons}
+use Rattle.std.proofs.lemmas.List.Sums.{sum_by-append}
 use Rattle.mj_tiles.specs.Faces.{kind_of}
 use Rattle.mj_tiles.specs.Counts.{number_of, kind_counts, NoFifth}
 use Rattle.mj_tiles.proofs.CountSteps.{length-kind_counts, get_or-kind_counts}

@@ -1,5 +1,5 @@
 -- Lists of melds that take no memory: four places, of which the first are the melds and the others are blank.
-use Rattle.std.specs.Prelude.{ℕ, List, [], ◌∷◌, Option, None, option_to_list}
+use Rattle.std.specs.Prelude.{ℕ, List, ◌∷◌, None, option_to_list}
 use Rattle.mj_lists.specs.Padded.{padded, IsPadded}
 use Rattle.mj_tiles.specs.declared.meld.Meld.{Meld}
 use Rattle.mj_tiles.specs.declared.meld.Form.TheVariants.{Chi}

@@ -1,5 +1,5 @@
 -- A complete hand has a reading.
-use Rattle.std.proofs.Common.{ℕ, ◌≡◌, ◌<◌, ◌≤◌, ◌+◌, ◌-◌, ◌*◌, [], ◌∷◌, Bool, true, false, not, cond, List, length, take, get_or, Some, refl, sym, ◌∙◌, ap, arith, eqb, zero, suc, ◌⊎◌, inl, inr, ◌&&◌}
+use Rattle.std.proofs.Common.{ℕ, ◌≡◌, ◌<◌, ◌≤◌, ◌-◌, [], ◌∷◌, Bool, true, false, not, cond, List, length, take, get_or, Some, refl, sym, ◌∙◌, ap, arith, eqb, suc, inl, inr, ◌&&◌}
 use Rattle.std.specs.List.{list_all, list_any, count_by, slice_get}
 use Rattle.std.specs.Option.{option_map_or}
 use Rattle.std.proofs.lemmas.Bool.{and_parts, and_from, or_left, or_right, eqb-true, false≢true}

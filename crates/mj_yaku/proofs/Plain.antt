@@ -1,7 +1,7 @@
 -- Hands that have a yaku however they are read.
 use Rattle.std.proofs.Common.{ℕ, ◌≡◌, ◌<◌, ◌≤◌, ◌+◌, ◌-◌, ◌*◌, ◌/◌, ◌%◌, ◌++◌, [], ◌∷◌, Bool, true, false, not, cond, List, length, take}
 use Rattle.std.proofs.Common.{drop, get_or, Option, Some, None, refl, sym, ◌∙◌, ap, arith, eqb, ltb, ◌⊎◌, inl, inr, ◌&&◌, ◌||◌}
-use Rattle.std.specs.List.{list_all, list_any, count_by, flat_map, filter, position}
+use Rattle.std.specs.List.{list_all, list_any, count_by, flat_map, position}
 use Rattle.std.specs.Option.{option_map_or}
 use Rattle.std.specs.Prelude.{IsTrue, ◌↔◌}
 use Rattle.std.proofs.lemmas.Bool.{and_parts, and_from, or_cases, or_left, or_right, eq-eqb, ne_eqb, ltb-true, lt-ltb, false≢true, cases_lt, cases_eq}
@@ -24,7 +24,7 @@ use Rattle.mj_readings.specs.declared.reading.Reading.{Reading}
 use Rattle.mj_readings.specs.declared.reading.Reading.TheVariants.{Standard, Pairs, Orphans}
 use Rattle.mj_readings.specs.AllReadings.{readings_of}
 use Rattle.mj_readings.specs.Sets.{tiles_of_set, tiles_of_form, is_concealed, is_concealed_form, set_of_meld}
-use Rattle.mj_readings.specs.Complete.{AreSetsAndPair, AreOrphans, orphan_number}
+use Rattle.mj_readings.specs.Complete.{AreSetsAndPair, AreOrphans}
 use Rattle.mj_readings.specs.Readings.{IsReading, IsStandard}
 use Rattle.mj_readings.specs.Tests.{complete}
 use Rattle.mj_readings.proofs.Laws.{get_or-tally}

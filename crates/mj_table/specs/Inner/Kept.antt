@@ -1,5 +1,5 @@
 -- What a table keeps of the deeds that it stands for, and what a deed more makes of it.
-use Rattle.std.specs.Prelude.{◌≡◌, ◌≤◌, ◌<◌, ◌+◌, ◌-◌, ◌==◌, IsTrue, if◌then◌else◌, List, [], ◌∷◌, ◌++◌, length, flat_map, replicate, slice_index, Option, ℕ, ℤ}
+use Rattle.std.specs.Prelude.{◌≡◌, ◌≤◌, ◌+◌, ◌-◌, IsTrue, if◌then◌else◌, List, [], flat_map, replicate, slice_index, Option, ℕ, ℤ}
 use Rattle.mj_tiles.specs.Faces.{number_in, tile_order}
 use Rattle.mj_rounds.specs.declared.rounds.Standing.{Standing}
 use Rattle.mj_deeds.specs.declared.deed.Deed.{Deed}

@@ -1,4 +1,4 @@
-use Rattle.std.proofs.Common.{sym, ◌∙◌, length, ◌≤◌, subst, List, ℕ}
+use Rattle.std.proofs.Common.{sym, ◌∙◌, ◌≤◌, subst}
 use Rattle.mj_deeds.specs.Hand.{hand}
 use Rattle.mj_machine.proofs.Indicators.{unders_of_others, unders_more, unders_few, unders_whole}
 use Rattle.mj_machine.proofs.winning.unders.Goals as goal

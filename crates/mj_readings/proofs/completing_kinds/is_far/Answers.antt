@@ -1,4 +1,4 @@
-use Rattle.std.proofs.Common.{◌<◌, ◌+◌, ap, subst, sym, eqb, ltb, ◌&&◌, ◌∙◌}
+use Rattle.std.proofs.Common.{◌<◌, ap, subst, sym, eqb, ltb, ◌&&◌, ◌∙◌}
 use Rattle.std.specs.List.{count_by}
 use Rattle.std.proofs.lemmas.Bool.{false≢true, ltb-true}
 use Rattle.mj_readings.specs.Inner.Sums.{singles, tiles_from}

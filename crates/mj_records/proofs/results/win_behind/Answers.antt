@@ -1,4 +1,4 @@
-use Rattle.std.proofs.Common.{rules, ◌≡◌, ◌∙◌, sym, Some, None}
+use Rattle.std.proofs.Common.{rules, ◌≡◌, ◌∙◌, Some, None}
 use Rattle.std.specs.Prelude.{codes}
 use Rattle.mj_records.specs.Inner.Lists.{rows_field}
 use Rattle.mj_records.specs.Deeds.{win_by}

@@ -1,4 +1,4 @@
-use Rattle.std.proofs.Common.{arith, sym, ◌≡◌, ◌∙◌, ◌<◌, get_or, length, subst}
+use Rattle.std.proofs.Common.{arith, sym, ◌∙◌, ◌<◌, get_or, subst}
 use Rattle.mj_tiles.specs.Counts.{IsCounts}
 use Rattle.mj_yaku.specs.Inner.Plain.{AreSimple}
 use Rattle.mj_yaku.proofs.Plain.{way_gives, tiles_give}

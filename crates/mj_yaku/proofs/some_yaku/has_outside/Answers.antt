@@ -1,5 +1,4 @@
-use Rattle.std.proofs.Common.{arith, sym}
-use Rattle.std.proofs.lemmas.Bool.{false≢true}
+use Rattle.std.proofs.Common.{arith}
 use Rattle.mj_yaku.proofs.Plain.{ends_more, honours_more, none_outside}
 use Rattle.mj_yaku.proofs.some_yaku.has_outside.Goals as goal
 

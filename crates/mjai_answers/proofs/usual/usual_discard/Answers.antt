@@ -1,4 +1,3 @@
-use Rattle.std.proofs.Common.{ap, ◌∙◌, ◌++◌}
 use Rattle.std.specs.Prelude.{codes}
 use Rattle.mjai_answers.proofs.Spellings.{discard_read}
 use Rattle.mjai_answers.proofs.Texts.{typed}

@@ -1,4 +1,4 @@
-use Rattle.std.proofs.Common.{◌++◌, sym, ap, ◌∙◌}
+use Rattle.std.proofs.Common.{sym, ap, ◌∙◌}
 use Rattle.std.specs.Prelude.{codes}
 use Rattle.mj_forms.specs.AnswerForms.{answer_of}
 use Rattle.mjai_answers.proofs.Spellings.{pass_read, pass_of_actor_read}

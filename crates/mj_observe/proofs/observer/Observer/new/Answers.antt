@@ -1,4 +1,3 @@
-use Rattle.std.proofs.Common.{rules}
 use Rattle.mj_observe.proofs.Keeping.{kept_none}
 use Rattle.mj_observe.proofs.observer.Observer.new.Goals as goal
 

@@ -1,5 +1,4 @@
-use Rattle.std.proofs.Common.{◌≡◌, ℕ, ◌<◌, ◌≤◌, length, List, [], ◌∷◌, ◌∙◌, arith, sym}
-use Rattle.mj_tiles.specs.Faces.{face_of}
+use Rattle.std.proofs.Common.{◌∙◌, arith, sym}
 use Rattle.mj_tiles.proofs.Spelled.{one_read, two_read, three_read, none_read}
 use Rattle.mj_tiles.proofs.tile.Tile.read.Goals as goal
 
